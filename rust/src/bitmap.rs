@@ -1,4 +1,15 @@
-use crate::prelude::*;
+//! Bitmaps in borrowed bytes.
+//!
+//! Their calls run proved loops (`mask_c`), each of which takes a bitmap as its bytes, its offset and its length. What a
+//! loop asks isn't tested again there. That the bits are within the bytes holds of each bitmap: `new` tests it, `slice`
+//! takes a part of them, and the bytes of a `BitmapBuf` are room for its values. What a loop asks beside that is tested or
+//! made so just above its call. A closure that calls one reads the three by methods: so it borrows the bitmap, and not each
+//! field by itself.
+
+use crate::Error;
+use crate::proved::mask_bits::BitChunks;
+use crate::proved::mask_c;
+use core::ops::{Bound, Range, RangeBounds};
 #[cfg(target_endian = "little")]
 use core::slice;
 
@@ -61,17 +72,39 @@ impl<'a> Bitmap<'a> {
         Bitmap::new(bytes, 0, len)
     }
 
-    tells! {
-        /// How many values there are.
-        pub fn len(self) -> usize = self.len;
-        /// Whether there is no value.
-        pub fn is_empty(self) -> bool = self.len == 0;
-        /// The bytes that the values lie in.
-        pub fn bytes(self) -> &'a [u8] = self.bytes;
-        /// The position of value 0 in the bytes, in bits.
-        pub fn offset(self) -> usize = self.offset;
-        /// Value `i`, and `None` past the end.
-        pub fn get(self, i: usize) -> Option<bool> = (i < self.len).then(|| call!(row_mask_value(self, i)));
+    /// How many values there are.
+    #[must_use]
+    #[inline]
+    pub fn len(self) -> usize {
+        self.len
+    }
+
+    /// Whether there is no value.
+    #[must_use]
+    #[inline]
+    pub fn is_empty(self) -> bool {
+        self.len == 0
+    }
+
+    /// The bytes that the values lie in.
+    #[must_use]
+    #[inline]
+    pub fn bytes(self) -> &'a [u8] {
+        self.bytes
+    }
+
+    /// The position of value 0 in the bytes, in bits.
+    #[must_use]
+    #[inline]
+    pub fn offset(self) -> usize {
+        self.offset
+    }
+
+    /// Value `i`, and `None` past the end.
+    #[must_use]
+    #[inline]
+    pub fn get(self, i: usize) -> Option<bool> {
+        (i < self.len).then(|| mask_c::row_mask_value(self.bytes(), self.offset(), self.len(), i))
     }
 
     /// The values of a range, in the same bytes.

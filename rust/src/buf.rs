@@ -1,4 +1,7 @@
-use crate::prelude::*;
+//! Bitmaps in bytes of their own.
+
+use crate::{Bitmap, Values};
+use alloc::vec::Vec;
 
 mod change;
 mod make;
@@ -24,18 +27,45 @@ pub struct BitmapBuf {
 }
 
 impl BitmapBuf {
-    tells! {
-        /// The values, borrowed.
-        pub fn as_bitmap(&self) -> Bitmap<'_> = Bitmap { bytes: &self.bytes, offset: 0, len: self.len };
-        /// How many values there are.
-        pub fn len(&self) -> usize = self.len;
-        /// Whether there is no value.
-        pub fn is_empty(&self) -> bool = self.len == 0;
-        /// The values, in their order.
-        pub fn iter(&self) -> Values<'_> = self.as_bitmap().iter();
-        /// The bytes that have the values. The bits behind the last value are clear, so equal lists have equal bytes.
-        pub fn as_bytes(&self) -> &[u8] = &self.bytes;
-        /// The same bytes, in place of the list.
-        pub fn into_bytes(self) -> Vec<u8> = self.bytes;
+    /// The values, borrowed.
+    #[must_use]
+    #[inline]
+    pub fn as_bitmap(&self) -> Bitmap<'_> {
+        Bitmap { bytes: &self.bytes, offset: 0, len: self.len }
+    }
+
+    /// How many values there are.
+    #[must_use]
+    #[inline]
+    pub fn len(&self) -> usize {
+        self.len
+    }
+
+    /// Whether there is no value.
+    #[must_use]
+    #[inline]
+    pub fn is_empty(&self) -> bool {
+        self.len == 0
+    }
+
+    /// The values, in their order.
+    #[must_use]
+    #[inline]
+    pub fn iter(&self) -> Values<'_> {
+        self.as_bitmap().iter()
+    }
+
+    /// The bytes that have the values. The bits behind the last value are clear, so equal lists have equal bytes.
+    #[must_use]
+    #[inline]
+    pub fn as_bytes(&self) -> &[u8] {
+        &self.bytes
+    }
+
+    /// The same bytes, in place of the list.
+    #[must_use]
+    #[inline]
+    pub fn into_bytes(self) -> Vec<u8> {
+        self.bytes
     }
 }

@@ -11,12 +11,11 @@ mod bitmap;
 mod buf;
 pub mod conditions;
 mod error;
-mod forms;
 #[doc(hidden)]
 pub mod kit;
 mod mask;
+mod memory;
 mod native;
-mod prelude;
 mod proved;
 mod row;
 mod selection;

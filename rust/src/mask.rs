@@ -5,29 +5,13 @@ mod answers;
 mod walks;
 
 use crate::kit::{AllocError, TryClone};
+use crate::memory::granted;
 use crate::proved::mask_bits::{BitBuffer, BitBufferMut};
 use crate::proved::vortex_mask::{Mask, MaskError};
-use alloc::alloc::{Layout, handle_alloc_error};
 use alloc::vec::Vec;
 use core::fmt;
 use core::hash::{Hash, Hasher};
 use core::ops::{BitAnd, BitOr, Not};
-
-// What a call gave that may have asked for memory for so many bits.
-#[track_caller]
-fn granted<T>(given: Result<T, impl Into<MaskError>>, bits: usize) -> T {
-    match given.map_err(Into::into) {
-        Ok(it) => it,
-        Err(MaskError::Memory(_)) => out_of_memory(bits),
-        Err(refusal) => panic!("{refusal}"),
-    }
-}
-
-#[cold]
-pub(crate) fn out_of_memory(bits: usize) -> ! {
-    let layout = Layout::array::<u8>(bits.div_ceil(8));
-    handle_alloc_error(layout.expect("an eighth of any number is the size of a list"))
-}
 
 // Operators and clones, by calls that both types have.
 macro_rules! operators {
@@ -169,7 +153,10 @@ impl FromIterator<Mask> for Mask {
     fn from_iter<I: IntoIterator<Item = Mask>>(masks: I) -> Mask {
         let masks = Vec::from_iter(masks);
         let len = masks.iter().map(Mask::len).fold(0, usize::saturating_add);
-        granted(Mask::from_masks(masks), len)
+        match Mask::from_masks(masks) {
+            Err(refusal @ MaskError::LengthOverflow) => panic!("{refusal}"),
+            made => granted(made, len),
+        }
     }
 }
 

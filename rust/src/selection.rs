@@ -1,5 +1,19 @@
-use crate::prelude::*;
+//! The true values of a bitmap, read once for many columns.
+
+use crate::bitmap::read::INDICES_OF_A_BLOCK;
+use crate::bitmap::room::{
+    append_to, as_cells, as_items, as_places, first_of, list_of, made, reserve,
+};
+use crate::memory::granted;
+use crate::proved::mask_bits::SetSlices;
+use crate::proved::mask_bits::room::Lent;
 use crate::proved::mask_bits::word_rows::push_rows_one_by_one;
+use crate::proved::mask_c;
+use crate::{Bitmap, BitmapBuf, Error, Room, Row};
+use alloc::vec::Vec;
+use core::fmt;
+use core::mem::MaybeUninit;
+use core::ops::Range;
 
 mod strings;
 
@@ -35,8 +49,8 @@ enum Kept {
     Runs(Vec<(usize, usize)>),
 }
 
-// To copy a run at once pays where runs have so many values, taken together.
-const OF_A_RUN: usize = 24;
+// To copy a run at once pays where runs have so many values, taken together. Fewer take less time one by one.
+pub(crate) const OF_A_RUN: usize = 24;
 
 impl Kept {
     // Of a bitmap that begins at bit 0, and has so many true values.
@@ -82,30 +96,100 @@ impl Selection {
         Ok(Selection { bitmap, count, kept })
     }
 
-    tells! {
-        /// How many rows a column has.
-        pub fn len(&self) -> usize = self.bitmap.len;
-        /// Whether a column has no rows.
-        pub fn is_empty(&self) -> bool = self.bitmap.is_empty();
-        /// How many rows are chosen.
-        pub fn count(&self) -> usize = self.count;
-        /// The bitmap that was read.
-        pub fn as_bitmap(&self) -> Bitmap<'_> = self.bitmap.as_bitmap();
+    /// How many rows a column has.
+    #[must_use]
+    #[inline]
+    pub fn len(&self) -> usize {
+        self.bitmap.len
     }
 
-    makers! {
-        /// The chosen values of a bitmap, such as the validity of a column.
-        pub fn choose_bits, choose_bits_into(&self, bits: Bitmap<'_>);
-            refused by "[`Error::RowsDiffer`] where the bitmap has not [`len`](Self::len) values"
-            { self.has_one_for_each(bits.len())?; }
-            of self.count, by |out| _ = call!(row_mask_choose_bits(self.as_bitmap(), bits.bytes, bits.offset, out));
+    /// Whether a column has no rows.
+    #[must_use]
+    #[inline]
+    pub fn is_empty(&self) -> bool {
+        self.bitmap.is_empty()
     }
 
-    choosers! {
-        /// The chosen rows of a column, in their order.
-        #[doc(alias("filter", "take"))]
-        pub fn choose(&self), of self;
-            refused by "[`Error::RowsDiffer`] where the column has not [`len`](Self::len) rows"
+    /// How many rows are chosen.
+    #[must_use]
+    #[inline]
+    pub fn count(&self) -> usize {
+        self.count
+    }
+
+    /// The bitmap that was read.
+    #[must_use]
+    #[inline]
+    pub fn as_bitmap(&self) -> Bitmap<'_> {
+        self.bitmap.as_bitmap()
+    }
+
+    /// The chosen values of a bitmap, such as the validity of a column.
+    ///
+    /// # Errors
+    /// [`Error::RowsDiffer`] where the bitmap has not [`len`](Self::len) values, and [`Error::OutOfMemory`].
+    pub fn choose_bits(&self, bits: Bitmap<'_>) -> Result<BitmapBuf, Error> {
+        made(|out| self.choose_bits_into(bits, out))
+    }
+
+    /// As [`choose_bits`](Self::choose_bits), written into `out`.
+    ///
+    /// # Errors
+    /// [`Error::RowsDiffer`] where the bitmap has not [`len`](Self::len) values, and the refusals of [`Room`].
+    pub fn choose_bits_into(
+        &self,
+        bits: Bitmap<'_>,
+        out: &mut (impl Room + ?Sized),
+    ) -> Result<(), Error> {
+        self.has_one_for_each(bits.len())?;
+        let bitmap = self.as_bitmap();
+        // SAFETY: the loop writes each byte, and reads none before.
+        unsafe {
+            out.write(self.count, |out| {
+                mask_c::row_mask_choose_bits(
+                    bitmap.bytes(),
+                    bitmap.offset(),
+                    bitmap.len(),
+                    bits.bytes(),
+                    bits.offset(),
+                    out,
+                );
+            })
+        }
+    }
+
+    /// The chosen rows of a column, in their order.
+    ///
+    /// # Errors
+    /// [`Error::RowsDiffer`] where the column has not [`len`](Self::len) rows, and [`Error::OutOfMemory`].
+    #[doc(alias("filter", "take"))]
+    pub fn choose<T: Row>(&self, rows: &[T]) -> Result<Vec<T>, Error> {
+        self.has_one_for_each(rows.len())?;
+        // SAFETY: there is a row for each value, and a place for each true one, which is written.
+        unsafe { list_of(self.count, |out| self.choose_to(rows, out)) }
+    }
+
+    /// As [`choose`](Self::choose), behind the items of a list.
+    ///
+    /// # Errors
+    /// As there. Then the list is as it was.
+    pub fn choose_append<T: Row>(&self, rows: &[T], list: &mut Vec<T>) -> Result<(), Error> {
+        self.has_one_for_each(rows.len())?;
+        // SAFETY: there is a row for each value, and a place for each true one, which is written.
+        unsafe { append_to(list, self.count, |out| self.choose_to(rows, out)) }
+    }
+
+    /// As [`choose`](Self::choose), to the front of `out`.
+    ///
+    /// # Errors
+    /// [`Error::RowsDiffer`] where the column has not [`len`](Self::len) rows, and [`Error::RoomTooSmall`] where `out` has
+    /// fewer items than rows are chosen.
+    pub fn choose_into<T: Row>(&self, rows: &[T], out: &mut [T]) -> Result<(), Error> {
+        self.has_one_for_each(rows.len())?;
+        let out = first_of(out, self.count)?;
+        // SAFETY: just rows are written, one to each place.
+        unsafe { self.choose_to(rows, as_places(out)) };
+        Ok(())
     }
 
     fn has_one_for_each(&self, rows: usize) -> Result<(), Error> {

@@ -1,6 +1,10 @@
 //! Values of any length, as strings: their bytes one after another, and where each begins.
 
-use crate::prelude::*;
+use crate::Error;
+use crate::bitmap::{range_within, room::are_fit};
+use crate::proved::mask_c;
+use core::fmt;
+use core::ops::{Range, RangeBounds};
 
 /// Where a value begins in the bytes of a column: 4 or 8 bytes, as Arrow has them.
 #[expect(private_bounds, reason = "no other type is one")]
@@ -9,20 +13,32 @@ pub trait Offset:
 {
 }
 
-macro_rules! offsets {
-    ($($signed:ty, $unsigned:ty);+) => {$(
-        impl Offset for $signed {}
-        impl Offset for $unsigned {}
+impl Offset for i32 {}
+impl Offset for i64 {}
+impl Offset for u32 {}
+impl Offset for u64 {}
 
-        #[allow(clippy::pedantic, reason = "none is negative, or more than the last one of a column")]
-        impl mask_c::Offset for $signed {
-            fn get(self) -> usize { self as usize }
-            fn of(n: usize) -> $signed { n as $signed }
-        }
-    )+};
+#[allow(clippy::pedantic, reason = "none is negative, or more than the last one of a column")]
+impl mask_c::Offset for i32 {
+    fn get(self) -> usize {
+        self as usize
+    }
+
+    fn of(n: usize) -> i32 {
+        n as i32
+    }
 }
 
-offsets!(i32, u32; i64, u64);
+#[allow(clippy::pedantic, reason = "none is negative, or more than the last one of a column")]
+impl mask_c::Offset for i64 {
+    fn get(self) -> usize {
+        self as usize
+    }
+
+    fn of(n: usize) -> i64 {
+        n as i64
+    }
+}
 
 /// A column of strings that lies in borrowed memory: value `i` has the bytes from `offsets[i]` to `offsets[i + 1]`.
 /// That these lie in order within the bytes is tested once.
@@ -59,20 +75,40 @@ impl<'a, O: Offset> Strings<'a, O> {
         Ok(Strings { offsets, bytes })
     }
 
-    tells! {
-        /// How many values there are.
-        pub fn len(self) -> usize = self.offsets.len() - 1;
-        /// Whether there is no value.
-        pub fn is_empty(self) -> bool = self.len() == 0;
-        /// Where the values begin in the bytes, and where the last one ends.
-        pub fn offsets(self) -> &'a [O] = self.offsets;
-        /// The bytes that the values lie in.
-        pub fn bytes(self) -> &'a [u8] = self.bytes;
-        /// Value `i`, and `None` past the end.
-        pub fn get(self, i: usize) -> Option<&'a [u8]> = {
-            let (start, end) = (self.offsets.get(i)?, self.offsets.get(i.wrapping_add(1))?);
-            self.bytes.get(start.get()..end.get())
-        };
+    /// How many values there are.
+    #[must_use]
+    #[inline]
+    pub fn len(self) -> usize {
+        self.offsets.len() - 1
+    }
+
+    /// Whether there is no value.
+    #[must_use]
+    #[inline]
+    pub fn is_empty(self) -> bool {
+        self.len() == 0
+    }
+
+    /// Where the values begin in the bytes, and where the last one ends.
+    #[must_use]
+    #[inline]
+    pub fn offsets(self) -> &'a [O] {
+        self.offsets
+    }
+
+    /// The bytes that the values lie in.
+    #[must_use]
+    #[inline]
+    pub fn bytes(self) -> &'a [u8] {
+        self.bytes
+    }
+
+    /// Value `i`, and `None` past the end.
+    #[must_use]
+    #[inline]
+    pub fn get(self, i: usize) -> Option<&'a [u8]> {
+        let (start, end) = (self.offsets.get(i)?, self.offsets.get(i.wrapping_add(1))?);
+        self.bytes.get(start.get()..end.get())
     }
 
     /// The values of a range, in the same bytes.

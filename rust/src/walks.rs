@@ -2,7 +2,11 @@
 //! front alone, and a step of them isn't inlined, so `Values` and `Indices` have theirs by hand.
 #![allow(clippy::inline_always, reason = "a call would keep the fields of a walk in memory")]
 
-use crate::prelude::*;
+use crate::Bitmap;
+use crate::proved::mask_bits::SetSlices;
+use core::fmt;
+use core::iter::FusedIterator;
+use core::ops::Range;
 
 mod indices;
 mod values;

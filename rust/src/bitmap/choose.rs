@@ -1,30 +1,101 @@
 //! Rows and values chosen at the true values.
 
+use super::room::{append_to, as_cells, as_places, first_of, list_of, made};
 use crate::native::processor::{Moved, moves_bytes, moves_fours};
-use crate::prelude::*;
 use crate::proved::mask_bits::push_rows::{choose_rows, choose_small_rows};
+use crate::proved::mask_bits::room::Lent;
 use crate::proved::mask_bits::small_rows::MoveRows;
+use crate::proved::mask_c;
+use crate::selection::{OF_A_RUN, copy_runs};
+use crate::{Bitmap, BitmapBuf, Error, Room, Row};
+use alloc::vec::Vec;
+use core::mem::MaybeUninit;
 use core::slice;
 
+// Several small rows are moved at once where one value in so many is true. Where fewer are, to count those of each word
+// takes longer than is gained.
+const ONE_TRUE_IN: usize = 8;
+
+// They are in words of so many true values or more, of rows of one byte and of four. Fewer take less time one by one.
+const FEW_BYTES: usize = 6;
+const FEW_FOURS: usize = 8;
+
+// The loop over words is compiled for x86-64-v3 too, which it asks for of more values than these (see `choose_rows`).
+const ANY_LEVEL: usize = 128;
+
+// Beside that one, runs have to have so many values, taken together, for copies of them to pay; beside the other `OF_A_RUN`.
+const OF_A_LONG_RUN: usize = 48;
+
 impl Bitmap<'_> {
-    makers! {
-        /// The values of another bitmap at the true values, in their order: the validity of a column that is filtered,
-        /// or a predicate of all rows as one of those that are left, which
-        /// [`intersect_by_rank`](Bitmap::intersect_by_rank) takes as ranks.
-        pub fn choose_bits, choose_bits_into(self, bits: Bitmap<'_>) -> count: usize, "how many values these are";
-            refused by "[`Error::RowsDiffer`] where the other bitmap has not one value for each value"
-            {
-                self.has_one_for_each(bits.len)?;
-                let count = self.count();
-            }
-            of count, by |out| _ = call!(row_mask_choose_bits(self, bits.bytes, bits.offset, out));
+    /// The values of another bitmap at the true values, in their order: the validity of a column that is filtered,
+    /// or a predicate of all rows as one of those that are left, which
+    /// [`intersect_by_rank`](Bitmap::intersect_by_rank) takes as ranks.
+    ///
+    /// # Errors
+    /// [`Error::RowsDiffer`] where the other bitmap has not one value for each value, and [`Error::OutOfMemory`].
+    pub fn choose_bits(self, bits: Bitmap<'_>) -> Result<BitmapBuf, Error> {
+        made(|out| self.choose_bits_into(bits, out))
     }
 
-    choosers! {
-        /// The rows at the true values, in their order.
-        #[doc(alias = "filter")]
-        pub fn choose(self), of self -> usize, "how many rows these are";
-            refused by "[`Error::RowsDiffer`] where there is not one row for each value"
+    /// As [`choose_bits`](Self::choose_bits), written into `out`, and answers how many values these are.
+    ///
+    /// # Errors
+    /// [`Error::RowsDiffer`] where the other bitmap has not one value for each value, and the refusals of [`Room`].
+    pub fn choose_bits_into(
+        self,
+        bits: Bitmap<'_>,
+        out: &mut (impl Room + ?Sized),
+    ) -> Result<usize, Error> {
+        self.has_one_for_each(bits.len)?;
+        let count = self.count();
+        // SAFETY: the loop writes each byte, and reads none before.
+        unsafe {
+            out.write(count, |out| {
+                mask_c::row_mask_choose_bits(
+                    self.bytes(),
+                    self.offset(),
+                    self.len(),
+                    bits.bytes(),
+                    bits.offset(),
+                    out,
+                );
+            })?;
+        }
+        Ok(count)
+    }
+
+    /// The rows at the true values, in their order.
+    ///
+    /// # Errors
+    /// [`Error::RowsDiffer`] where there is not one row for each value, and [`Error::OutOfMemory`].
+    #[doc(alias = "filter")]
+    pub fn choose<T: Row>(self, rows: &[T]) -> Result<Vec<T>, Error> {
+        self.has_one_for_each(rows.len())?;
+        // SAFETY: there is a row for each value, and a place for each true one, which is written.
+        unsafe { list_of(self.count(), |out| self.choose_to(rows, out)) }
+    }
+
+    /// As [`choose`](Self::choose), behind the items of a list.
+    ///
+    /// # Errors
+    /// As there. Then the list is as it was.
+    pub fn choose_append<T: Row>(self, rows: &[T], list: &mut Vec<T>) -> Result<(), Error> {
+        self.has_one_for_each(rows.len())?;
+        // SAFETY: there is a row for each value, and a place for each true one, which is written.
+        unsafe { append_to(list, self.count(), |out| self.choose_to(rows, out)) }
+    }
+
+    /// As [`choose`](Self::choose), to the front of `out`, and answers how many rows these are.
+    ///
+    /// # Errors
+    /// [`Error::RowsDiffer`] where there is not one row for each value, and [`Error::RoomTooSmall`] where `out` has
+    /// fewer items than rows are chosen.
+    pub fn choose_into<T: Row>(self, rows: &[T], out: &mut [T]) -> Result<usize, Error> {
+        self.has_one_for_each(rows.len())?;
+        let out = first_of(out, self.count())?;
+        // SAFETY: just rows are written, one to each place.
+        unsafe { self.choose_to(rows, as_places(out)) };
+        Ok(out.len())
     }
 
     // Tests that there is a row for each value.
@@ -34,24 +105,23 @@ impl Bitmap<'_> {
 
     // Writes each place. There is a row for each value, and just as many places as values are true.
     fn choose_to<T: Row>(self, rows: &[T], out: &mut [MaybeUninit<T>]) {
-        // (where fewer are true, to count those of each word takes longer than is gained)
-        let has_many = out.len() >= self.len / 8;
-        // (where runs have so many values, taken together, to copy each takes less time)
-        let of_a_run = if self.len > 128 { 48 } else { 24 };
+        let has_many = out.len() >= self.len / ONE_TRUE_IN;
+        // (between two runs there is a false value at least)
+        let of_a_run = if self.len > ANY_LEVEL { OF_A_LONG_RUN } else { OF_A_RUN };
         let has_long_runs = (self.len - out.len()).saturating_mul(of_a_run) <= out.len();
         match size_of::<T>() {
             1 if has_many && moves_bytes() => {
                 // SAFETY: a row is a byte that is written, as `Row` says. Each place gets one, and none is read before.
                 let (rows, out) = unsafe { as_byte_rows(rows, out) };
-                self.choose_several::<6, u8, Moved>(rows, out);
+                self.choose_several::<FEW_BYTES, u8, Moved>(rows, out);
             }
             #[cfg(target_arch = "x86_64")]
             4 if has_many && moves_fours() => {
                 // SAFETY: a row is four such bytes. Each place gets a row's, and none is read before.
                 let (rows, out) = unsafe { as_byte_rows(rows, out) };
-                self.choose_several::<8, [u8; 4], Moved>(rows, out);
+                self.choose_several::<FEW_FOURS, [u8; 4], Moved>(rows, out);
             }
-            _ if has_long_runs => crate::selection::copy_runs(as_cells(rows), self.runs(), out),
+            _ if has_long_runs => copy_runs(as_cells(rows), self.runs(), out),
             _ => {
                 let mut room = Lent { out, at: 0 };
                 choose_rows::<0, _, _>(&mut room, as_cells(rows), &self.chunks());

@@ -1,118 +1,316 @@
 //! Two bitmaps: combined value by value, beside each other, and one narrowed by another over its true values.
 
-use crate::prelude::*;
+use super::room::{are_fit, made};
+use crate::memory::granted;
+use crate::proved::mask_c;
+use crate::{Bitmap, BitmapBuf, Error, Room};
 
-/// An operation on two bitmaps: a bitmap made, one written into room, and one changed in place, each by a proved loop.
-macro_rules! combined {
-    ($(
-        $(#[$what:meta])+
-        pub fn $call:ident, $into:ident, $with:ident($combine:ident, $change:ident): $changed:literal;
-    )+) => {
-        impl Bitmap<'_> {
-            makers! {$(
-                $(#[$what])+
-                pub fn $call, $into(self, other: Bitmap<'_>); refused by "[`Error::LengthsDiffer`]"
-                    { self.of_length_of(other)?; }
-                    of self.len, by |out| call!($combine(self, beside other, out));
-            )+}
-        }
-
-        impl BitmapBuf {$(
-            #[doc = $changed]
-            ///
-            /// # Errors
-            /// [`Error::LengthsDiffer`].
-            pub fn $with(&mut self, other: Bitmap<'_>) -> Result<(), Error> {
-                self.as_bitmap().of_length_of(other)?;
-                mask_c::$change(&mut self.bytes, other.bytes, other.offset, self.len);
-                Ok(())
-            }
-        )+}
-    };
-}
-
-combined! {
+impl Bitmap<'_> {
     /// The values that are true in both.
-    pub fn and, and_into, and_with(row_mask_and, row_mask_and_in_place):
-        "Leaves those values true that are true in `other` too, in place.";
+    ///
+    /// # Errors
+    /// [`Error::LengthsDiffer`], and [`Error::OutOfMemory`].
+    pub fn and(self, other: Bitmap<'_>) -> Result<BitmapBuf, Error> {
+        made(|out| self.and_into(other, out))
+    }
+
+    /// As [`and`](Self::and), written into `out`.
+    ///
+    /// # Errors
+    /// [`Error::LengthsDiffer`], and the refusals of [`Room`].
+    pub fn and_into(self, other: Bitmap<'_>, out: &mut (impl Room + ?Sized)) -> Result<(), Error> {
+        self.of_length_of(other)?;
+        // SAFETY: the loop writes each byte, and reads none before.
+        unsafe {
+            out.write(self.len, |out| {
+                mask_c::row_mask_and(
+                    self.bytes(),
+                    self.offset(),
+                    other.bytes(),
+                    other.offset(),
+                    self.len(),
+                    out,
+                );
+            })
+        }
+    }
+
     /// The values that are true in one or in both.
-    pub fn or, or_into, or_with(row_mask_or, row_mask_or_in_place):
-        "Makes those values true that are true in `other`, in place.";
+    ///
+    /// # Errors
+    /// [`Error::LengthsDiffer`], and [`Error::OutOfMemory`].
+    pub fn or(self, other: Bitmap<'_>) -> Result<BitmapBuf, Error> {
+        made(|out| self.or_into(other, out))
+    }
+
+    /// As [`or`](Self::or), written into `out`.
+    ///
+    /// # Errors
+    /// [`Error::LengthsDiffer`], and the refusals of [`Room`].
+    pub fn or_into(self, other: Bitmap<'_>, out: &mut (impl Room + ?Sized)) -> Result<(), Error> {
+        self.of_length_of(other)?;
+        // SAFETY: the loop writes each byte, and reads none before.
+        unsafe {
+            out.write(self.len, |out| {
+                mask_c::row_mask_or(
+                    self.bytes(),
+                    self.offset(),
+                    other.bytes(),
+                    other.offset(),
+                    self.len(),
+                    out,
+                );
+            })
+        }
+    }
+
     /// The values that are true here and not in `other`.
-    pub fn and_not, and_not_into, and_not_with(row_mask_and_not, row_mask_and_not_in_place):
-        "Makes those values false that are true in `other`, in place.";
+    ///
+    /// # Errors
+    /// [`Error::LengthsDiffer`], and [`Error::OutOfMemory`].
+    pub fn and_not(self, other: Bitmap<'_>) -> Result<BitmapBuf, Error> {
+        made(|out| self.and_not_into(other, out))
+    }
+
+    /// As [`and_not`](Self::and_not), written into `out`.
+    ///
+    /// # Errors
+    /// [`Error::LengthsDiffer`], and the refusals of [`Room`].
+    pub fn and_not_into(
+        self,
+        other: Bitmap<'_>,
+        out: &mut (impl Room + ?Sized),
+    ) -> Result<(), Error> {
+        self.of_length_of(other)?;
+        // SAFETY: the loop writes each byte, and reads none before.
+        unsafe {
+            out.write(self.len, |out| {
+                mask_c::row_mask_and_not(
+                    self.bytes(),
+                    self.offset(),
+                    other.bytes(),
+                    other.offset(),
+                    self.len(),
+                    out,
+                );
+            })
+        }
+    }
+
     /// The values that are true in one and not in the other.
-    pub fn xor, xor_into, xor_with(row_mask_xor, row_mask_xor_in_place):
-        "Negates those values that are true in `other`, in place.";
+    ///
+    /// # Errors
+    /// [`Error::LengthsDiffer`], and [`Error::OutOfMemory`].
+    pub fn xor(self, other: Bitmap<'_>) -> Result<BitmapBuf, Error> {
+        made(|out| self.xor_into(other, out))
+    }
+
+    /// As [`xor`](Self::xor), written into `out`.
+    ///
+    /// # Errors
+    /// [`Error::LengthsDiffer`], and the refusals of [`Room`].
+    pub fn xor_into(self, other: Bitmap<'_>, out: &mut (impl Room + ?Sized)) -> Result<(), Error> {
+        self.of_length_of(other)?;
+        // SAFETY: the loop writes each byte, and reads none before.
+        unsafe {
+            out.write(self.len, |out| {
+                mask_c::row_mask_xor(
+                    self.bytes(),
+                    self.offset(),
+                    other.bytes(),
+                    other.offset(),
+                    self.len(),
+                    out,
+                );
+            })
+        }
+    }
 }
 
-/// Calls that tell something of two bitmaps, each by a proved loop.
-macro_rules! compared {
-    ($($(#[$what:meta])+ pub fn $call:ident($compare:ident) -> $answer:ty;)+) => {$(
-        $(#[$what])+
-        ///
-        /// # Errors
-        /// [`Error::LengthsDiffer`].
-        pub fn $call(self, other: Bitmap<'_>) -> Result<$answer, Error> {
-            self.of_length_of(other)?;
-            Ok(call!($compare(self, beside other)))
-        }
-    )+};
+impl BitmapBuf {
+    /// Leaves those values true that are true in `other` too, in place.
+    ///
+    /// # Errors
+    /// [`Error::LengthsDiffer`].
+    pub fn and_with(&mut self, other: Bitmap<'_>) -> Result<(), Error> {
+        self.as_bitmap().of_length_of(other)?;
+        mask_c::row_mask_and_in_place(&mut self.bytes, other.bytes, other.offset, self.len);
+        Ok(())
+    }
+
+    /// Makes those values true that are true in `other`, in place.
+    ///
+    /// # Errors
+    /// [`Error::LengthsDiffer`].
+    pub fn or_with(&mut self, other: Bitmap<'_>) -> Result<(), Error> {
+        self.as_bitmap().of_length_of(other)?;
+        mask_c::row_mask_or_in_place(&mut self.bytes, other.bytes, other.offset, self.len);
+        Ok(())
+    }
+
+    /// Makes those values false that are true in `other`, in place.
+    ///
+    /// # Errors
+    /// [`Error::LengthsDiffer`].
+    pub fn and_not_with(&mut self, other: Bitmap<'_>) -> Result<(), Error> {
+        self.as_bitmap().of_length_of(other)?;
+        mask_c::row_mask_and_not_in_place(&mut self.bytes, other.bytes, other.offset, self.len);
+        Ok(())
+    }
+
+    /// Negates those values that are true in `other`, in place.
+    ///
+    /// # Errors
+    /// [`Error::LengthsDiffer`].
+    pub fn xor_with(&mut self, other: Bitmap<'_>) -> Result<(), Error> {
+        self.as_bitmap().of_length_of(other)?;
+        mask_c::row_mask_xor_in_place(&mut self.bytes, other.bytes, other.offset, self.len);
+        Ok(())
+    }
 }
 
 impl Bitmap<'_> {
-    writers! {
-        /// Each value negated, written into `out`.
-        pub fn not_into(self) of self.len, by |out| call!(row_mask_not(self, out));
-        /// The same values, written into `out`.
-        pub fn copy_into(self) of self.len, by |out| {
-            if !self.offset.is_multiple_of(8) {
-                return call!(row_mask_copy(self, out));
-            }
-            out.copy_from_slice(&self.bytes[self.offset / 8..][..out.len()]);
-            mask_c::clear_behind(out, self.len);
-        };
+    /// Each value negated, written into `out`.
+    ///
+    /// # Errors
+    /// The refusals of [`Room`].
+    pub fn not_into(self, out: &mut (impl Room + ?Sized)) -> Result<(), Error> {
+        // SAFETY: the loop writes each byte, and reads none before.
+        unsafe {
+            out.write(self.len, |out| {
+                mask_c::row_mask_not(self.bytes(), self.offset(), self.len(), out);
+            })
+        }
     }
 
-    tells! {
-        /// The same values in bytes of their own, from bit 0 on.
-        pub fn to_buf(self) -> BitmapBuf = granted(made(|out| self.copy_into(out)), self.len);
-    }
-
-    compared! {
-        /// How many values are true in both.
-        pub fn and_count(row_mask_and_count) -> usize;
-        /// Whether some value is true in both.
-        pub fn intersects(row_mask_intersects) -> bool;
-        /// Whether each true value of this one is true in `other`.
-        pub fn is_subset(row_mask_is_subset) -> bool;
-    }
-
-    makers! {
-        /// The bitmap narrowed by another over its true values: true value number `k` stays true exactly where value
-        /// `k` of `ranks` is true.
-        ///
-        /// Where the processor has the instruction `pdep`, and in a few cycles, that deposits the words.
-        pub fn intersect_by_rank, intersect_by_rank_into(self, ranks: Bitmap<'_>);
-            refused by "[`Error::RanksDiffer`] where `ranks` has not one value for each true value"
-            {
-                let (count, Bitmap { bytes, offset, len }) = (self.count(), ranks);
-                Error::RanksDiffer { ranks: len, count }.unless(len == count)?;
-            }
-            of self.len, by |out| call!(row_mask_intersect_by_rank(self, bytes, offset, count, out));
-
-        /// The bitmap in which just those true values stay true whose numbers are `ranks`.
-        pub fn intersect_at_ranks, intersect_at_ranks_into(self, ranks: &[usize]);
-            refused by "[`Error::UnsortedRanks`] where a rank is not above the one before it, \
-                [`Error::RankOutOfBounds`] where one is not below the number of true values"
-            {
-                are_fit(ranks, PartialOrd::lt).map_err(|at| Error::UnsortedRanks { at })?;
-                if let Some(&rank) = ranks.last() {
-                    let count = self.count();
-                    Error::RankOutOfBounds { rank, count }.unless(rank < count)?;
+    /// The same values, written into `out`.
+    ///
+    /// # Errors
+    /// The refusals of [`Room`].
+    pub fn copy_into(self, out: &mut (impl Room + ?Sized)) -> Result<(), Error> {
+        // SAFETY: either copy writes each byte, and reads none before.
+        unsafe {
+            out.write(self.len, |out| {
+                if !self.offset.is_multiple_of(8) {
+                    return mask_c::row_mask_copy(self.bytes(), self.offset(), self.len(), out);
                 }
-            }
-            of self.len, by |out| call!(row_mask_intersect_at_ranks(self, ranks, out));
+                out.copy_from_slice(&self.bytes[self.offset / 8..][..out.len()]);
+                mask_c::clear_behind(out, self.len);
+            })
+        }
+    }
+
+    /// The same values in bytes of their own, from bit 0 on.
+    #[must_use]
+    #[inline]
+    pub fn to_buf(self) -> BitmapBuf {
+        granted(made(|out| self.copy_into(out)), self.len)
+    }
+
+    /// How many values are true in both.
+    ///
+    /// # Errors
+    /// [`Error::LengthsDiffer`].
+    pub fn and_count(self, other: Bitmap<'_>) -> Result<usize, Error> {
+        self.of_length_of(other)?;
+        let (a, b) = (self, other);
+        Ok(mask_c::row_mask_and_count(a.bytes(), a.offset(), b.bytes(), b.offset(), a.len()))
+    }
+
+    /// Whether some value is true in both.
+    ///
+    /// # Errors
+    /// [`Error::LengthsDiffer`].
+    pub fn intersects(self, other: Bitmap<'_>) -> Result<bool, Error> {
+        self.of_length_of(other)?;
+        let (a, b) = (self, other);
+        Ok(mask_c::row_mask_intersects(a.bytes(), a.offset(), b.bytes(), b.offset(), a.len()))
+    }
+
+    /// Whether each true value of this one is true in `other`.
+    ///
+    /// # Errors
+    /// [`Error::LengthsDiffer`].
+    pub fn is_subset(self, other: Bitmap<'_>) -> Result<bool, Error> {
+        self.of_length_of(other)?;
+        let (a, b) = (self, other);
+        Ok(mask_c::row_mask_is_subset(a.bytes(), a.offset(), b.bytes(), b.offset(), a.len()))
+    }
+
+    /// The bitmap narrowed by another over its true values: true value number `k` stays true exactly where value
+    /// `k` of `ranks` is true.
+    ///
+    /// Where the processor has the instruction `pdep`, and in a few cycles, that deposits the words.
+    ///
+    /// # Errors
+    /// [`Error::RanksDiffer`] where `ranks` has not one value for each true value, and [`Error::OutOfMemory`].
+    pub fn intersect_by_rank(self, ranks: Bitmap<'_>) -> Result<BitmapBuf, Error> {
+        made(|out| self.intersect_by_rank_into(ranks, out))
+    }
+
+    /// As [`intersect_by_rank`](Self::intersect_by_rank), written into `out`.
+    ///
+    /// # Errors
+    /// [`Error::RanksDiffer`] where `ranks` has not one value for each true value, and the refusals of [`Room`].
+    pub fn intersect_by_rank_into(
+        self,
+        ranks: Bitmap<'_>,
+        out: &mut (impl Room + ?Sized),
+    ) -> Result<(), Error> {
+        let count = self.count();
+        Error::RanksDiffer { ranks: ranks.len, count }.unless(ranks.len == count)?;
+        // SAFETY: the loop writes each byte, and reads none before.
+        unsafe {
+            out.write(self.len, |out| {
+                mask_c::row_mask_intersect_by_rank(
+                    self.bytes(),
+                    self.offset(),
+                    self.len(),
+                    ranks.bytes(),
+                    ranks.offset(),
+                    count,
+                    out,
+                );
+            })
+        }
+    }
+
+    /// The bitmap in which just those true values stay true whose numbers are `ranks`.
+    ///
+    /// # Errors
+    /// [`Error::UnsortedRanks`] where a rank is not above the one before it, [`Error::RankOutOfBounds`] where one is not
+    /// below the number of true values, and [`Error::OutOfMemory`].
+    pub fn intersect_at_ranks(self, ranks: &[usize]) -> Result<BitmapBuf, Error> {
+        made(|out| self.intersect_at_ranks_into(ranks, out))
+    }
+
+    /// As [`intersect_at_ranks`](Self::intersect_at_ranks), written into `out`.
+    ///
+    /// # Errors
+    /// [`Error::UnsortedRanks`] where a rank is not above the one before it, [`Error::RankOutOfBounds`] where one is not
+    /// below the number of true values, and the refusals of [`Room`].
+    pub fn intersect_at_ranks_into(
+        self,
+        ranks: &[usize],
+        out: &mut (impl Room + ?Sized),
+    ) -> Result<(), Error> {
+        are_fit(ranks, PartialOrd::lt).map_err(|at| Error::UnsortedRanks { at })?;
+        if let Some(&rank) = ranks.last() {
+            let count = self.count();
+            Error::RankOutOfBounds { rank, count }.unless(rank < count)?;
+        }
+        // SAFETY: the loop writes each byte, and reads none before.
+        unsafe {
+            out.write(self.len, |out| {
+                mask_c::row_mask_intersect_at_ranks(
+                    self.bytes(),
+                    self.offset(),
+                    self.len(),
+                    ranks,
+                    out,
+                );
+            })
+        }
     }
 
     // Tests that another bitmap has as many values.
@@ -124,8 +322,10 @@ impl Bitmap<'_> {
 /// Equal where the values are: bytes, offsets and the bits around the values don't count.
 impl PartialEq<Bitmap<'_>> for Bitmap<'_> {
     fn eq(&self, other: &Bitmap<'_>) -> bool {
-        if self.len != other.len || !(self.offset | other.offset).is_multiple_of(8) {
-            return self.len == other.len && call!(row_mask_equal(self, beside other));
+        let (a, b) = (self, other);
+        if a.len != b.len || !(a.offset | b.offset).is_multiple_of(8) {
+            return a.len == b.len
+                && mask_c::row_mask_equal(a.bytes(), a.offset(), b.bytes(), b.offset(), a.len());
         }
         // (what lies alike is compared as bytes are, which the platform does in its best way)
         let (left, right) = (&self.bytes[self.offset / 8..], &other.bytes[other.offset / 8..]);

@@ -1,14 +1,23 @@
 //! Counts, indices and runs of a bitmap, and its words.
 
-use crate::prelude::*;
+use super::range_within;
+use super::room::{are_fit, as_items, first_of, list_of};
+use crate::memory::granted;
+use crate::proved::mask_c;
+use crate::{Bitmap, Error, Indices, Runs, Values};
+use alloc::vec::Vec;
+use core::mem::MaybeUninit;
+use core::ops::{Range, RangeBounds};
 
 pub(crate) const INDICES_OF_A_BLOCK: usize = 256;
 
 impl<'a> Bitmap<'a> {
-    tells! {
-        /// How many values are true.
-        #[doc(alias("true_count", "count_set_bits", "count_ones"))]
-        pub fn count(self) -> usize = match self.len {
+    /// How many values are true.
+    #[doc(alias("true_count", "count_set_bits", "count_ones"))]
+    #[must_use]
+    #[inline]
+    pub fn count(self) -> usize {
+        match self.len {
             // (to ask what the processor has takes longer than to count so few)
             0..64 => self.chunks().remainder_bits().count_ones() as usize,
             64..=128 => {
@@ -17,43 +26,95 @@ impl<'a> Bitmap<'a> {
                 let last = u128::from(word(self.len - 64)) >> (128 - self.len);
                 (word(0).count_ones() + last.count_ones()) as usize
             }
-            _ => call!(row_mask_count(self)),
-        };
-        /// Whether some value is true.
-        pub fn any(self) -> bool = self.next_index(0).is_some();
-        /// Whether no value is false.
-        pub fn all(self) -> bool = self.is_empty() || self.next_run(0) == Some(0..self.len);
-        /// The index of true value number `n`, counted from 0.
-        #[doc(alias = "limit")]
-        pub fn select(self, n: usize) -> Option<usize> = self.inside(call!(row_mask_select(self, n)));
-        /// The first index from `from` on whose value is true.
-        pub fn next_index(self, from: usize) -> Option<usize> = self.inside(call!(row_mask_next_index(self, from)));
-        /// The index of the last true value.
-        pub fn last_index(self) -> Option<usize> = self.inside(call!(row_mask_last_index(self)));
-        /// The first run of true values from `from` on. A run that `from` is inside begins there.
-        pub fn next_run(self, from: usize) -> Option<Range<usize>> =
-            Some(call!(row_mask_next_run(self, from))).filter(|run| run.start < self.len).map(|run| run.start..run.end);
-        /// The values, in their order.
-        pub fn iter(self) -> Values<'a> = Values::new(self);
-        /// The indices of the true values, ascending.
-        #[doc(alias("set_indices", "iter_ones"))]
-        pub fn indices(self) -> Indices<'a> = Indices::new(self);
-        /// The maximal ranges of true values, ascending.
-        #[doc(alias = "set_slices")]
-        pub fn runs(self) -> Runs<'a> = Runs::new(self);
-        /// The indices of the true values, ascending, in room for just as many.
-        pub fn to_indices(self) -> Vec<usize> = {
-            let count = self.count();
-            // SAFETY: each place is written, since so many values are true.
-            let indices = unsafe { list_of(count, |out| _ = self.next_indices(0, as_items(out))) };
-            granted(indices, count.saturating_mul(64))
-        };
-        /// All words of 64 values, as [`next_words`](Bitmap::next_words) has them.
-        pub fn to_words(self) -> Vec<u64> = {
-            // SAFETY: each place is written, since there are so many words.
-            let words = unsafe { list_of(self.len.div_ceil(64), |out| _ = self.next_words(0, as_items(out))) };
-            granted(words, self.len)
-        };
+            _ => mask_c::row_mask_count(self.bytes(), self.offset(), self.len()),
+        }
+    }
+
+    /// Whether some value is true.
+    #[must_use]
+    #[inline]
+    pub fn any(self) -> bool {
+        self.next_index(0).is_some()
+    }
+
+    /// Whether no value is false.
+    #[must_use]
+    #[inline]
+    pub fn all(self) -> bool {
+        self.is_empty() || self.next_run(0) == Some(0..self.len)
+    }
+
+    /// The index of true value number `n`, counted from 0.
+    #[doc(alias = "limit")]
+    #[must_use]
+    #[inline]
+    pub fn select(self, n: usize) -> Option<usize> {
+        self.inside(mask_c::row_mask_select(self.bytes(), self.offset(), self.len(), n))
+    }
+
+    /// The first index from `from` on whose value is true.
+    #[must_use]
+    #[inline]
+    pub fn next_index(self, from: usize) -> Option<usize> {
+        self.inside(mask_c::row_mask_next_index(self.bytes(), self.offset(), self.len(), from))
+    }
+
+    /// The index of the last true value.
+    #[must_use]
+    #[inline]
+    pub fn last_index(self) -> Option<usize> {
+        self.inside(mask_c::row_mask_last_index(self.bytes(), self.offset(), self.len()))
+    }
+
+    /// The first run of true values from `from` on. A run that `from` is inside begins there.
+    #[must_use]
+    #[inline]
+    pub fn next_run(self, from: usize) -> Option<Range<usize>> {
+        let run = mask_c::row_mask_next_run(self.bytes(), self.offset(), self.len(), from);
+        (run.start < self.len).then_some(run.start..run.end)
+    }
+
+    /// The values, in their order.
+    #[must_use]
+    #[inline]
+    pub fn iter(self) -> Values<'a> {
+        Values::new(self)
+    }
+
+    /// The indices of the true values, ascending.
+    #[doc(alias("set_indices", "iter_ones"))]
+    #[must_use]
+    #[inline]
+    pub fn indices(self) -> Indices<'a> {
+        Indices::new(self)
+    }
+
+    /// The maximal ranges of true values, ascending.
+    #[doc(alias = "set_slices")]
+    #[must_use]
+    #[inline]
+    pub fn runs(self) -> Runs<'a> {
+        Runs::new(self)
+    }
+
+    /// The indices of the true values, ascending, in room for just as many.
+    #[must_use]
+    #[inline]
+    pub fn to_indices(self) -> Vec<usize> {
+        let count = self.count();
+        // SAFETY: each place is written, since so many values are true.
+        let indices = unsafe { list_of(count, |out| _ = self.next_indices(0, as_items(out))) };
+        granted(indices, count.saturating_mul(64))
+    }
+
+    /// All words of 64 values, as [`next_words`](Bitmap::next_words) has them.
+    #[must_use]
+    #[inline]
+    pub fn to_words(self) -> Vec<u64> {
+        let count = self.len.div_ceil(64);
+        // SAFETY: each place is written, since there are so many words.
+        let words = unsafe { list_of(count, |out| _ = self.next_words(0, as_items(out))) };
+        granted(words, self.len)
     }
 
     // An index, where a call answers the length for none.
@@ -67,7 +128,7 @@ impl<'a> Bitmap<'a> {
     /// [`Error::BadRange`] where it is no range of the values.
     pub fn count_range(self, range: impl RangeBounds<usize>) -> Result<usize, Error> {
         let Range { start, end } = range_within(&range, self.len)?;
-        Ok(call!(row_mask_count_range(self, start, end)))
+        Ok(mask_c::row_mask_count_range(self.bytes(), self.offset(), self.len(), start, end))
     }
 
     /// For each index how many of the values below it are true, all in one pass.
@@ -83,9 +144,19 @@ impl<'a> Bitmap<'a> {
     /// above the length, and [`Error::OutOfMemory`].
     pub fn counts_below(self, indices: &[usize]) -> Result<Vec<usize>, Error> {
         self.are_ends(indices)?;
-        let count = indices.len();
         // SAFETY: each place is written.
-        unsafe { list_of(count, |out| call!(row_mask_counts_below(self, indices, as_items(out)))) }
+        unsafe {
+            list_of(indices.len(), |out| {
+                let out = as_items(out);
+                mask_c::row_mask_counts_below(
+                    self.bytes(),
+                    self.offset(),
+                    self.len(),
+                    indices,
+                    out,
+                );
+            })
+        }
     }
 
     /// As [`counts_below`](Bitmap::counts_below), to the front of `out`.
@@ -95,7 +166,8 @@ impl<'a> Bitmap<'a> {
     /// fewer items than there are indices.
     pub fn counts_below_into(self, indices: &[usize], out: &mut [usize]) -> Result<(), Error> {
         self.are_ends(indices)?;
-        call!(row_mask_counts_below(self, indices, first_of(out, indices.len())?));
+        let out = first_of(out, indices.len())?;
+        mask_c::row_mask_counts_below(self.bytes(), self.offset(), self.len(), indices, out);
         Ok(())
     }
 
@@ -109,7 +181,7 @@ impl<'a> Bitmap<'a> {
     /// Writes the indices of the true values from `from` on to the front of `out`, as many as there are or as it takes,
     /// and answers how many these are. Behind them `out` may have other numbers than before.
     pub fn next_indices(self, from: usize, out: &mut [usize]) -> usize {
-        call!(row_mask_next_indices(self, from, out))
+        mask_c::row_mask_next_indices(self.bytes(), self.offset(), self.len(), from, out)
     }
 
     // Calls a function with the indices of the true values, block after block of them, in the nearest memory.
@@ -137,6 +209,6 @@ impl<'a> Bitmap<'a> {
     /// # Ok::<(), row_mask::Error>(())
     /// ```
     pub fn next_words(self, from: usize, out: &mut [u64]) -> usize {
-        call!(row_mask_words(self, from, out))
+        mask_c::row_mask_words(self.bytes(), self.offset(), self.len(), from, out)
     }
 }

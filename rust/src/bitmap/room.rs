@@ -1,8 +1,10 @@
 //! What a bitmap can be written into.
 
 use crate::kit::List;
-use crate::mask::out_of_memory;
-use crate::prelude::*;
+use crate::proved::mask_c;
+use crate::{BitmapBuf, Error};
+use alloc::vec::Vec;
+use core::mem::MaybeUninit;
 use core::slice;
 
 /// What the calls named `.._into` write a bitmap into, from bit 0 on: bytes of the caller, or a [`BitmapBuf`], which
@@ -64,7 +66,7 @@ impl sealed::Room for BitmapBuf {
 
 impl sealed::Room for [u8] {
     unsafe fn write(&mut self, len: usize, fill: impl FnOnce(&mut [u8])) -> Result<(), Error> {
-        fill(first_of(self, room_for(len))?);
+        fill(first_of(self, mask_c::row_mask_room(len))?);
         Ok(())
     }
 }
@@ -78,7 +80,7 @@ impl sealed::Room for New {
     #[inline]
     unsafe fn write(&mut self, len: usize, fill: impl FnOnce(&mut [u8])) -> Result<(), Error> {
         // SAFETY: this is what is asked here too.
-        let bytes = unsafe { list_of(room_for(len), |out| fill(as_items(out)))? };
+        let bytes = unsafe { list_of(mask_c::row_mask_room(len), |out| fill(as_items(out)))? };
         self.0 = Some(BitmapBuf { bytes, len });
         Ok(())
     }
@@ -92,11 +94,6 @@ pub(crate) fn made<T>(
     let mut new = New(None);
     write(&mut new)?;
     Ok(new.0.unwrap_or_default())
-}
-
-/// What was made, of so many bits: where there is no memory, the process ends, as by Rust's own lists.
-pub(crate) fn granted<M>(made: Result<M, Error>, bits: usize) -> M {
-    made.unwrap_or_else(|_| out_of_memory(bits))
 }
 
 /// The first `needed` items.

@@ -1,9 +1,14 @@
 //! Changes in place.
 
+use crate::bitmap::range_within;
+use crate::bitmap::room::reserve;
 use crate::kit::unchecked::put_lowest;
+use crate::memory::granted;
 use crate::native::levelled;
-use crate::prelude::*;
+use crate::proved::mask_c;
 use crate::words::{for_each_bit, number_of};
+use crate::{Bitmap, BitmapBuf, Error};
+use core::ops::{Range, RangeBounds};
 
 impl BitmapBuf {
     /// Negates each value, in place.
@@ -55,7 +60,7 @@ impl BitmapBuf {
     /// Forgets the values from the first `len` on, if there are more, and keeps the memory.
     pub fn truncate(&mut self, len: usize) {
         if len < self.len {
-            self.bytes.truncate(room_for(len));
+            self.bytes.truncate(mask_c::row_mask_room(len));
             mask_c::clear_behind(&mut self.bytes, len);
             self.len = len;
         }
@@ -71,7 +76,7 @@ impl BitmapBuf {
     /// # Errors
     /// [`Error::OutOfMemory`].
     pub fn try_reserve(&mut self, more: usize) -> Result<(), Error> {
-        let more = room_for(self.len.saturating_add(more)) - self.bytes.len();
+        let more = mask_c::row_mask_room(self.len.saturating_add(more)) - self.bytes.len();
         reserve(&mut self.bytes, more)
     }
 
@@ -89,7 +94,7 @@ impl BitmapBuf {
     /// Adds the values of a bitmap behind the last value.
     pub fn append(&mut self, more: Bitmap<'_>) {
         let len = self.len.saturating_add(more.len());
-        self.bytes.resize(room_for(len), 0);
+        self.bytes.resize(mask_c::row_mask_room(len), 0);
         mask_c::row_mask_append(&mut self.bytes, self.len, more.bytes(), more.offset(), more.len());
         self.len = len;
     }

@@ -1,100 +1,109 @@
 //! What a bitmap of its own bytes is made of.
 
 use super::pack::{AHEAD, pack_fn, pack_rows};
+use crate::bitmap::range_within;
+use crate::bitmap::room::{append_to, as_items, made};
 use crate::kit::zeros;
-use crate::prelude::*;
-
-/// Makers that abort where there is no memory, as Rust's own lists do, each with the form that answers so.
-macro_rules! tried {
-    ($(
-        $(#[$what:meta])+
-        pub fn $call:ident, $tried:ident($len:ident: usize $(, $more:ident: $type:ty)?) $body:block
-    )+) => {$(
-        $(#[$what])+
-        #[must_use]
-        pub fn $call($len: usize $(, $more: $type)?) -> BitmapBuf {
-            granted(BitmapBuf::$tried($len $(, $more)?), $len)
-        }
-
-        #[doc = concat!("As [`", stringify!($call), "`](Self::", stringify!($call), "), of a length that may be any.")]
-        ///
-        /// # Errors
-        /// [`Error::OutOfMemory`].
-        pub fn $tried($len: usize $(, $more: $type)?) -> Result<BitmapBuf, Error> $body
-    )+};
-}
+use crate::memory::granted;
+use crate::proved::mask_c;
+use crate::{Bitmap, BitmapBuf, Error, Room};
+use alloc::vec::Vec;
+use core::ops::Range;
 
 impl BitmapBuf {
-    tried! {
-        /// No value, with memory for so many.
-        pub fn with_capacity, try_with_capacity(len: usize) {
-            let mut made = BitmapBuf::default();
-            made.try_reserve(len)?;
-            Ok(made)
-        }
+    /// No value, with memory for so many.
+    #[must_use]
+    pub fn with_capacity(len: usize) -> BitmapBuf {
+        granted(BitmapBuf::try_with_capacity(len), len)
+    }
 
-        /// So many values, all false.
-        pub fn all_false, try_all_false(len: usize) {
-            let bytes = room_for(len);
-            Ok(BitmapBuf { bytes: zeros(bytes).map_err(|_| Error::OutOfMemory { bytes })?, len })
-        }
+    /// As [`with_capacity`](Self::with_capacity), of a length that may be any.
+    ///
+    /// # Errors
+    /// [`Error::OutOfMemory`].
+    pub fn try_with_capacity(len: usize) -> Result<BitmapBuf, Error> {
+        let mut made = BitmapBuf::default();
+        made.try_reserve(len)?;
+        Ok(made)
+    }
 
-        /// So many values, all true.
-        pub fn all_true, try_all_true(len: usize) {
-            made(|out| BitmapBuf::all_into(len, true, out))
-        }
+    /// So many values, all false.
+    #[must_use]
+    pub fn all_false(len: usize) -> BitmapBuf {
+        granted(BitmapBuf::try_all_false(len), len)
+    }
 
-        /// `value(0)`, `value(1)` and so on. Where there is no memory, no value is asked for.
-        pub fn from_fn, try_from_fn(len: usize, value: impl FnMut(usize) -> bool) {
-            made(|out| BitmapBuf::from_fn_into(len, value, out))
+    /// As [`all_false`](Self::all_false), of a length that may be any.
+    ///
+    /// # Errors
+    /// [`Error::OutOfMemory`].
+    pub fn try_all_false(len: usize) -> Result<BitmapBuf, Error> {
+        let bytes = mask_c::row_mask_room(len);
+        Ok(BitmapBuf { bytes: zeros(bytes).map_err(|_| Error::OutOfMemory { bytes })?, len })
+    }
+
+    /// So many values, all true.
+    #[must_use]
+    pub fn all_true(len: usize) -> BitmapBuf {
+        granted(BitmapBuf::try_all_true(len), len)
+    }
+
+    /// As [`all_true`](Self::all_true), of a length that may be any.
+    ///
+    /// # Errors
+    /// [`Error::OutOfMemory`].
+    pub fn try_all_true(len: usize) -> Result<BitmapBuf, Error> {
+        made(|out| BitmapBuf::all_into(len, true, out))
+    }
+
+    /// So many values, all of them `value`, written into `out`.
+    ///
+    /// # Errors
+    /// The refusals of [`Room`].
+    pub fn all_into(len: usize, value: bool, out: &mut (impl Room + ?Sized)) -> Result<(), Error> {
+        // SAFETY: each byte is filled, and none is read before.
+        unsafe {
+            out.write(len, |out| {
+                out.fill(if value { 0xFF } else { 0 });
+                mask_c::clear_behind(out, len);
+            })
         }
     }
 
-    makers! {
-        /// `len` values, of which just those at `indices` are true. These may come in any order and more than once.
-        pub fn from_indices, from_indices_into(len: usize, indices: &[usize]);
-            refused by "[`Error::IndexOutOfBounds`] with the first that is not below the length"
-            {
-                if let Some(&index) = indices.iter().find(|index| **index >= len) {
-                    return Err(Error::IndexOutOfBounds { index, len });
-                }
-            }
-            of len, by |out| mask_c::row_mask_from_indices(indices, len, out);
+    /// `value(0)`, `value(1)` and so on. Where there is no memory, no value is asked for.
+    #[must_use]
+    pub fn from_fn(len: usize, value: impl FnMut(usize) -> bool) -> BitmapBuf {
+        granted(BitmapBuf::try_from_fn(len, value), len)
     }
 
-    writers! {
-        /// So many values, all of them `value`, written into `out`.
-        pub fn all_into(len: usize, value: bool) of len, by |out| {
-            out.fill(if value { 0xFF } else { 0 });
-            mask_c::clear_behind(out, len);
-        };
-        /// As [`from_fn`](Self::from_fn), written into `out`.
-        pub fn from_fn_into(len: usize, value: impl FnMut(usize) -> bool) of len, by |out| pack_fn(len, value, out);
-        /// A list of truth values, written into `out`. `BitmapBuf::from` makes a bitmap of one.
-        pub fn from_bools_into(values: &[bool]) of values.len(), by |out| mask_c::row_mask_from_bools(values, out);
-        /// As [`from_rows`](Self::from_rows), written into `out`.
-        pub fn from_rows_into<T>(rows: &[T], is_true: impl FnMut(&T) -> bool)
-            of rows.len(), by |out| pack_rows(rows, is_true, out);
-        /// As [`from_ranges`](Self::from_ranges) of a list, written into `out`.
-        pub fn from_ranges_into(len: usize, ranges: &[Range<usize>])
-            refused by "[`Error::BadRange`] as there"
-            { ranges.iter().try_for_each(|range| range_within(range, len).map(|_| ()))?; }
-            of len, by |out| {
-                out.fill(0);
-                let mut run = 0..0;
-                for range in ranges {
-                    fill(out, &mut run, range.clone());
-                }
-            };
-        /// As [`concat`](Self::concat) of a list, written into `out`.
-        pub fn concat_into(bitmaps: &[Bitmap<'_>])
-            of bitmaps.iter().fold(0, |len: usize, it| len.saturating_add(it.len())), by |out| {
-                out.fill(0);
-                bitmaps.iter().fold(0, |len, it| {
-                    mask_c::row_mask_append(out, len, it.bytes(), it.offset(), it.len());
-                    len + it.len()
-                });
-            };
+    /// As [`from_fn`](Self::from_fn), of a length that may be any.
+    ///
+    /// # Errors
+    /// [`Error::OutOfMemory`].
+    pub fn try_from_fn(len: usize, value: impl FnMut(usize) -> bool) -> Result<BitmapBuf, Error> {
+        made(|out| BitmapBuf::from_fn_into(len, value, out))
+    }
+
+    /// As [`from_fn`](Self::from_fn), written into `out`.
+    ///
+    /// # Errors
+    /// The refusals of [`Room`].
+    pub fn from_fn_into(
+        len: usize,
+        value: impl FnMut(usize) -> bool,
+        out: &mut (impl Room + ?Sized),
+    ) -> Result<(), Error> {
+        // SAFETY: it writes each byte, and reads none before.
+        unsafe { out.write(len, |out| pack_fn(len, value, out)) }
+    }
+
+    /// A list of truth values, written into `out`. `BitmapBuf::from` makes a bitmap of one.
+    ///
+    /// # Errors
+    /// The refusals of [`Room`].
+    pub fn from_bools_into(values: &[bool], out: &mut (impl Room + ?Sized)) -> Result<(), Error> {
+        // SAFETY: the loop writes each byte, and reads none before.
+        unsafe { out.write(values.len(), |out| mask_c::row_mask_from_bools(values, out)) }
     }
 
     /// For each row whether it is one that is asked for: a predicate over a column. It takes less time than the same by
@@ -107,6 +116,19 @@ impl BitmapBuf {
     #[must_use]
     pub fn from_rows<T>(rows: &[T], is_true: impl FnMut(&T) -> bool) -> BitmapBuf {
         granted(made(|out| BitmapBuf::from_rows_into(rows, is_true, out)), rows.len())
+    }
+
+    /// As [`from_rows`](Self::from_rows), written into `out`.
+    ///
+    /// # Errors
+    /// The refusals of [`Room`].
+    pub fn from_rows_into<T>(
+        rows: &[T],
+        is_true: impl FnMut(&T) -> bool,
+        out: &mut (impl Room + ?Sized),
+    ) -> Result<(), Error> {
+        // SAFETY: it writes each byte, and reads none before.
+        unsafe { out.write(rows.len(), |out| pack_rows(rows, is_true, out)) }
     }
 
     /// As [`collect`](Iterator::collect) makes a bitmap, written into `out`. `values` have to know how many they are;
@@ -135,6 +157,30 @@ impl BitmapBuf {
         Ok(())
     }
 
+    /// `len` values, of which just those at `indices` are true. These may come in any order and more than once.
+    ///
+    /// # Errors
+    /// [`Error::IndexOutOfBounds`] with the first that is not below the length, and [`Error::OutOfMemory`].
+    pub fn from_indices(len: usize, indices: &[usize]) -> Result<BitmapBuf, Error> {
+        made(|out| BitmapBuf::from_indices_into(len, indices, out))
+    }
+
+    /// As [`from_indices`](Self::from_indices), written into `out`.
+    ///
+    /// # Errors
+    /// [`Error::IndexOutOfBounds`] with the first that is not below the length, and the refusals of [`Room`].
+    pub fn from_indices_into(
+        len: usize,
+        indices: &[usize],
+        out: &mut (impl Room + ?Sized),
+    ) -> Result<(), Error> {
+        if let Some(&index) = indices.iter().find(|index| **index >= len) {
+            return Err(Error::IndexOutOfBounds { index, len });
+        }
+        // SAFETY: the loop writes each byte, and reads none before.
+        unsafe { out.write(len, |out| mask_c::row_mask_from_indices(indices, len, out)) }
+    }
+
     /// `len` values, of which just those within the ranges are true. These may come in any order, and overlap. Each is
     /// tested when it comes, and memory for more than 2²³ values is asked for when one reaches past these, or all were
     /// tested.
@@ -158,6 +204,28 @@ impl BitmapBuf {
         }
         made.lengthen(len)?;
         Ok(made)
+    }
+
+    /// As [`from_ranges`](Self::from_ranges) of a list, written into `out`.
+    ///
+    /// # Errors
+    /// [`Error::BadRange`] as there. The refusals of [`Room`].
+    pub fn from_ranges_into(
+        len: usize,
+        ranges: &[Range<usize>],
+        out: &mut (impl Room + ?Sized),
+    ) -> Result<(), Error> {
+        ranges.iter().try_for_each(|range| range_within(range, len).map(|_| ()))?;
+        // SAFETY: each byte is filled, and none is read before.
+        unsafe {
+            out.write(len, |out| {
+                out.fill(0);
+                let mut run = 0..0;
+                for range in ranges {
+                    fill(out, &mut run, range.clone());
+                }
+            })
+        }
     }
 
     /// The `len` values from bit `offset` on of bytes that are given away. From bit 0 on they are kept in place, and
@@ -189,6 +257,27 @@ impl BitmapBuf {
         made
     }
 
+    /// As [`concat`](Self::concat) of a list, written into `out`.
+    ///
+    /// # Errors
+    /// The refusals of [`Room`].
+    pub fn concat_into(
+        bitmaps: &[Bitmap<'_>],
+        out: &mut (impl Room + ?Sized),
+    ) -> Result<(), Error> {
+        let len = bitmaps.iter().fold(0, |len: usize, it| len.saturating_add(it.len()));
+        // SAFETY: each byte is filled, and none is read before.
+        unsafe {
+            out.write(len, |out| {
+                out.fill(0);
+                bitmaps.iter().fold(0, |len, it| {
+                    mask_c::row_mask_append(out, len, it.bytes(), it.offset(), it.len());
+                    len + it.len()
+                });
+            })
+        }
+    }
+
     // Adds the `len` values that `fill` writes into room for them, if there is memory.
     // SAFETY of a call: it writes each byte that it gets, and reads none before; the last byte has eight values.
     pub(crate) unsafe fn add(
@@ -196,8 +285,9 @@ impl BitmapBuf {
         len: usize,
         fill: impl FnOnce(&mut [u8]),
     ) -> Result<(), Error> {
+        let bytes = mask_c::row_mask_room(len);
         // SAFETY: this is what is asked here too.
-        unsafe { append_to(&mut self.bytes, room_for(len), |out| fill(as_items(out)))? };
+        unsafe { append_to(&mut self.bytes, bytes, |out| fill(as_items(out)))? };
         self.len += len;
         Ok(())
     }

@@ -1,9 +1,13 @@
 //! Truth values that are packed.
 
+use crate::BitmapBuf;
+use crate::bitmap::room::{as_items, reserve};
 use crate::kit::unchecked::put_lowest;
+use crate::memory::granted;
 use crate::native::levelled;
-use crate::prelude::*;
 use crate::proved::mask_bits::from_rows::{word_of_rows, word_of_whole};
+use crate::proved::mask_c;
+use core::mem::MaybeUninit;
 
 // Bytes that are asked for ahead by a number that nothing has borne out yet, such as an iterator's hint.
 pub(super) const AHEAD: usize = 1 << 20;
@@ -11,6 +15,9 @@ pub(super) const AHEAD: usize = 1 << 20;
 // Values asked for before they are packed, in the nearest memory: a multiple of 64. As bytes they take 1.2 of the time.
 const BLOCK: usize = 1024;
 type Block = [MaybeUninit<u16>; BLOCK];
+
+// To pack so few values takes less time than to ask what the processor has.
+const FEW: usize = 128;
 
 /// Takes values, as many as there are or as the block has places, and answers how many these are.
 #[inline]
@@ -43,7 +50,7 @@ fn pack_block(block: &mut Block, count: usize, out: &mut [u8]) {
 }
 
 levelled! {
-    where out.len() > 16;
+    where out.len() > FEW / 8;
     fn pack_words(values: &[u16], out: &mut [u8]) {
         for (out, values) in out.chunks_mut(8).zip(values.as_chunks::<64>().0) {
             put_lowest(word_of_whole(values, &mut |it| *it != 0), out);
@@ -53,7 +60,7 @@ levelled! {
 
 // Writes each byte of what is asked of rows, to just the bytes that they take.
 levelled! {
-    where rows.len() > 128;
+    where rows.len() > FEW;
     pub(super) fn pack_rows<T>(rows: &[T], is_true: impl FnMut(&T) -> bool, out: &mut [u8]) {
         let (is_true, (whole, rest)) = (&mut { is_true }, rows.as_chunks::<64>());
         let (words, last) = out.split_at_mut(8 * whole.len());
@@ -80,13 +87,13 @@ impl Extend<bool> for BitmapBuf {
             let Some(value) = values.next() else { return };
             self.push(value);
         }
-        let ahead = room_for(values.size_hint().0).min(AHEAD);
+        let ahead = mask_c::row_mask_room(values.size_hint().0).min(AHEAD);
         granted(reserve(&mut self.bytes, ahead), 8 * ahead);
         let mut block = [MaybeUninit::uninit(); BLOCK];
         loop {
             if self.bytes.capacity() - self.bytes.len() < BLOCK / 8 {
                 // (a hint that was right for so long: if it is refused, room is made for what comes)
-                let _ = self.bytes.try_reserve(room_for(values.size_hint().0));
+                let _ = self.bytes.try_reserve(mask_c::row_mask_room(values.size_hint().0));
             }
             let count = take(&mut block, values.by_ref());
             // SAFETY: it writes each byte and reads none before, and the last byte has eight values.

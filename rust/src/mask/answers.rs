@@ -41,19 +41,21 @@ impl Hash for RankPath {
     }
 }
 
-macro_rules! copied {
-    ($($of:ty),*) => {$(
-        impl Clone for $of {
-            fn clone(&self) -> Self {
-                *self
-            }
-        }
-
-        impl Copy for $of {}
-    )*};
+impl Clone for MaskError {
+    fn clone(&self) -> Self {
+        *self
+    }
 }
 
-copied!(MaskError, MaskIter<'_>);
+impl Copy for MaskError {}
+
+impl Clone for MaskIter<'_> {
+    fn clone(&self) -> Self {
+        *self
+    }
+}
+
+impl Copy for MaskIter<'_> {}
 
 // As many values, indices or runs are printed of a list that may have millions.
 const PRINTED: usize = 64;

@@ -28,14 +28,16 @@ impl<'a> IntoIterator for &'a BitBuffer {
     }
 }
 
-macro_rules! fused {
-    ($($of:ident)*) => {
-        $(impl FusedIterator for $of<'_> {})*
-    };
-}
+impl FusedIterator for BitIterator<'_> {}
+impl FusedIterator for MaskBoolIter<'_> {}
+impl FusedIterator for MaskSetIndices<'_> {}
+impl FusedIterator for MaskSetSlices<'_> {}
+impl FusedIterator for PaddedWords<'_> {}
+impl FusedIterator for SetIndices<'_> {}
+impl FusedIterator for SetSlices<'_> {}
+impl FusedIterator for Words<'_> {}
 
-fused!(BitIterator MaskBoolIter MaskSetIndices MaskSetSlices PaddedWords SetIndices SetSlices Words);
-
+// No field of these is printed.
 macro_rules! named {
     ($($of:ident)*) => {
         $(impl fmt::Debug for $of<'_> {

@@ -1,9 +1,11 @@
 //! Strings at the chosen rows.
 
 use super::{Kept, copy_runs};
-use crate::prelude::*;
+use crate::bitmap::room::{as_items, first_of, list_of};
 use crate::proved::mask_c::{put_ends, put_strings, take_offsets};
 use crate::strings::are_sorted;
+use crate::{Error, Offset, Selection, Strings};
+use alloc::vec::Vec;
 
 impl Selection {
     /// Writes where the chosen values begin and end to the front of `out`, from 0 on, and answers how many bytes they

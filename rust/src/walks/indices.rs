@@ -1,5 +1,8 @@
-use crate::prelude::*;
+use crate::Bitmap;
 use crate::words::number_of;
+use core::fmt;
+use core::iter::FusedIterator;
+use core::mem::take;
 use core::slice::Iter;
 
 /// The indices of the true values of a [`Bitmap`], ascending.

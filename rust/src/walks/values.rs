@@ -1,4 +1,8 @@
-use crate::prelude::*;
+use crate::Bitmap;
+use crate::proved::mask_bits::BitChunks;
+use crate::proved::mask_c;
+use core::fmt;
+use core::iter::FusedIterator;
 
 /// The values of a [`Bitmap`], in their order.
 #[derive(Clone)]
