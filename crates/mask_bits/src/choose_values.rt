@@ -25,7 +25,7 @@ impl BitBuffer {
     {
         let mut bytes = vec![in alloc; 0u8; 8 * started_words(self.true_count())]?;
         let last = put_chosen(&self.chunks(), &of.chunks(), &mut bytes);
-        put_last(&mut bytes, last);
+        put_last_chosen(&mut bytes, last);
         Ok(BitBuffer::new(Bytes::from_vec(bytes)?, last.count))
     }
 }
@@ -85,7 +85,7 @@ fn put_pairs(masks: &BitChunks<'_>, values: &BitChunks<'_>, out: &mut [u8]) -> L
 // Writes the values past the whole words, where there are any.
 #[inline]
 #[tactic(auto, using(crate::proofs::Lists::Words::BackingBitLemmas::front_and_last))]
-fn put_last(out: &mut [u8], last: LastChosen)
+fn put_last_chosen(out: &mut [u8], last: LastChosen)
     requires { 8 * started_words last.count ≤ length out.old }
     ensures { bitmap out.new 0 last.count ≡ values_so_far out.old last.word last.count }
 {

@@ -39,7 +39,7 @@ pub(crate) fn next_word(chunks: &BitChunks<'_>, at: usize, word: u64) -> Option<
     let mut word = word;
     while word == 0 {
         if at + 1 >= whole {
-            return last_word(chunks, at);
+            return next_remainder(chunks, at);
         }
         at += 1;
         word = chunks.word(at);
@@ -50,7 +50,7 @@ pub(crate) fn next_word(chunks: &BitChunks<'_>, at: usize, word: u64) -> Option<
 // The same where nothing is left of word `at`, and no whole word comes after it.
 #[tactic(auto, using(crate::proofs::Lists::Words::WalkLemmas::left_in_words))]
 #[inline]
-fn last_word(chunks: &BitChunks<'_>, at: usize) -> Option<(usize, u64)>
+fn next_remainder(chunks: &BitChunks<'_>, at: usize) -> Option<(usize, u64)>
     requires passed { IsLeft chunks.now at 0 }
     requires last { length chunks.now / 64 ≤ at + 1 }
     ensures none { IfNone result (left_of chunks.now at 0 ≡ repeated (length chunks.now) false) }

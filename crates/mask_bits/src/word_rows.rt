@@ -16,7 +16,7 @@ const FULL: u64 = u64::MAX;
 const MOST_BYTES: usize = 65 * 32;
 
 // Room for the rows of a word, and for four more.
-const ROOM: usize = 68;
+const ROOM: usize = 64 + 4;
 
 /// Puts the rows at the set bits of a word into room for these: `K` at a time where there is room to spare, and
 /// what is put past them is dropped, so that few branches go by how many bits a word has; one after another where

@@ -5,7 +5,7 @@ ghost use Rattle.std.specs.Int.{div_ceil};
 ghost use Rattle.mask_bits.specs.Bitmap.{bitmap};
 ghost use Rattle.mask_c.specs.Bitmap.{AreClearBehind};
 
-use crate::last::put_last;
+use crate::last::put_remainder;
 use mask_bits::bools::{put_bools, word_of_bools};
 
 /// Writes truth values as a bitmap, from bit 0 on.
@@ -21,5 +21,5 @@ pub extern "C" fn row_mask_from_bools(values: &[bool], out: &mut [u8])
 {
     let whole = values.len() / 64;
     put_bools(&mut out[..8 * whole], &values[..64 * whole]);
-    put_last(out, word_of_bools(&values[64 * whole..]), values.len());
+    put_remainder(out, word_of_bools(&values[64 * whole..]), values.len());
 }

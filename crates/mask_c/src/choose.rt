@@ -10,6 +10,17 @@ use mask_bits::push_rows::{choose_rows, choose_small_rows};
 use mask_bits::room::Lent;
 use mask_bits::small_rows::MoveRows;
 
+// From so many true values of a word on, several rows of one byte are moved at once. Fewer take less time one by one.
+const FEW_BYTES: usize = 6;
+
+// Words have so many true values where one value in eight is true. Where they have fewer, to count those of each word
+// takes longer than is gained.
+const MANY: u32 = 64 / 8;
+
+// So many of the 64 indices within a word are true in one of four words, where one value in eight is true by chance:
+// each is with a probability of 1 - (7 / 8)^4.
+const MANY_OF_FOUR: u32 = 26;
+
 /// A row of 16 bytes.
 #[derive(Clone, Copy)]
 #[repr(C)]
@@ -34,7 +45,7 @@ pub extern "C" fn row_mask_choose_1(
     ensures { AreChosen rows.now (bitmap bytes.now offset len) out.new result }
 {
     if moves_bytes() && have_many(bytes, offset, len) {
-        choose_small::<6, Moved, _>(bytes, offset, len, rows, out)
+        choose_small::<FEW_BYTES, Moved, _>(bytes, offset, len, rows, out)
     } else {
         choose(bytes, offset, len, rows, out)
     }
@@ -143,9 +154,8 @@ fn choose_small<const FEW: usize, M: MoveRows<T>, T: Copy>(
     room.at
 }
 
-// Whether words have eight true values or more on the average, by the indices within a word that are true in one of
-// four words, or by the first word of fewer. Where they have fewer, to count those of each word takes longer than is
-// gained.
+// Whether words have `MANY` true values on the average, by the indices within a word that are true in one of four words,
+// or by the first word of fewer.
 #[inline]
 fn have_many(bytes: &[u8], offset: usize, len: usize) -> bool
     requires { IsWithinBytes bytes.now offset len }
@@ -153,11 +163,10 @@ fn have_many(bytes: &[u8], offset: usize, len: usize) -> bool
     let chunks = BitChunks::new(bytes, offset, len);
     let whole = chunks.len();
     if whole < 4 {
-        return whole > 0 && chunks.word(0).count_ones() >= 8;
+        return whole > 0 && chunks.word(0).count_ones() >= MANY;
     }
     let apart = whole / 4;
     let first = chunks.word(0) | chunks.word(apart);
     let last = chunks.word(2 * apart) | chunks.word(3 * apart);
-    // (26 of 64, where 1 in 8 is true by chance)
-    (first | last).count_ones() >= 26
+    (first | last).count_ones() >= MANY_OF_FOUR
 }

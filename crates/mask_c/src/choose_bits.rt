@@ -7,7 +7,7 @@ ghost use Rattle.mask_bits.specs.Buffer.{IsWithinBytes};
 ghost use Rattle.mask_bits.specs.Positions.{chosen, count};
 ghost use Rattle.mask_c.specs.Bitmap.{AreClearBehind};
 
-use crate::last::put_last;
+use crate::last::put_remainder;
 use mask_bits::BitChunks;
 use mask_bits::choose_values::put_chosen;
 
@@ -36,6 +36,6 @@ pub extern "C" fn row_mask_choose_bits(
     let masks = BitChunks::new(bytes, offset, len);
     let sources = BitChunks::new(values, values_offset, len);
     let last = put_chosen(&masks, &sources, out);
-    put_last(out, last.word, last.count);
+    put_remainder(out, last.word, last.count);
     last.count
 }

@@ -11,7 +11,7 @@ ghost use Rattle.mask_bits.specs.Words.{padded_part, padded_remainder, started_w
 ghost use Rattle.mask_c.specs.Bitmap.{AreClearBehind};
 ghost use Rattle.vortex_mask.specs.Ranks.{AreSplit};
 
-use crate::last::put_last;
+use crate::last::put_remainder;
 use crate::pointwise::row_mask_copy;
 use mask_bits::BitChunks;
 use mask_bits::counts::count_bits;
@@ -50,18 +50,18 @@ pub extern "C" fn row_mask_intersect_by_rank(
         return;
     }
     let whole = len / 64;
-    let (word, ones) = last_word(bytes, offset, len);
+    let (word, ones) = remainder_and_count(bytes, offset, len);
     let before = ranks_len - ones;
     let front = BitChunks::new(bytes, offset, 64 * whole);
     let bits = RankBits::over(ranks, ranks_offset, before);
     let are_few = deposits_by_loop(64 * whole, before);
     narrow_whole(&front, &bits, are_few, &mut out[..8 * whole]);
     let source = word_at(ranks, ranks_offset + before);
-    put_last(out, Portable::deposit_bits(source, word, ones), len);
+    put_remainder(out, Portable::deposit_bits(source, word, ones), len);
 }
 
 // The values past the whole words in the low bits of a word, and how many of them are true.
-fn last_word(bytes: &[u8], offset: usize, len: usize) -> (u64, usize)
+fn remainder_and_count(bytes: &[u8], offset: usize, len: usize) -> (u64, usize)
     requires { IsWithinBytes bytes.now offset len }
     ensures word { word_bits result.0 ≡ padded_remainder (bitmap bytes.now offset len) }
     ensures ones { result.1 ≡ count (word_bits result.0) }
@@ -160,11 +160,11 @@ fn narrow_at<D: DepositBits>(
     ensures behind { drop (div_ceil len 8) out.new ≡ drop (div_ceil len 8) out.old }
 {
     let whole = len / 64;
-    let (word, ones) = last_word(bytes, offset, len);
+    let (word, ones) = remainder_and_count(bytes, offset, len);
     let (cut, bits) = last_ranks(ranks, true_count - ones);
     let front = BitChunks::new(bytes, offset, 64 * whole);
     narrow_at_ranks::<D>(&front, &ranks[..cut], &mut out[..8 * whole]);
-    put_last(out, D::deposit_bits(bits, word, ones), len);
+    put_remainder(out, D::deposit_bits(bits, word, ones), len);
 }
 
 // How many ranks are below `from`, and the others as set bits, that of `from` lowest.

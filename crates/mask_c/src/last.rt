@@ -11,7 +11,7 @@ use mask_bits::words::low_bits;
 
 // Writes the values of a bitmap of `len` that are behind its whole words: the lowest bits of `word`, with
 // zeros up to the end of the last byte that they take, and nothing else.
-pub(crate) fn put_last(out: &mut [u8], word: u64, len: usize)
+pub(crate) fn put_remainder(out: &mut [u8], word: u64, len: usize)
     requires room { div_ceil len 8 ≤ length out.old }
     ensures list { bitmap out.new 0 len ≡ values_so_far out.old word len }
     ensures clear { AreClearBehind out.new len }

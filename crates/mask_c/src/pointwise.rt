@@ -8,7 +8,7 @@ ghost use Rattle.mask_bits.specs.Lists.{and_of, or_of, and_not_of, combined, not
 ghost use Rattle.mask_bits.specs.Words.{word_bits};
 ghost use Rattle.mask_c.specs.Bitmap.{AreClearBehind};
 
-use crate::last::put_last;
+use crate::last::put_remainder;
 use mask_bits::combine::{And, AndNot, BitOp, Not, Or, Xor, combine};
 use mask_bits::words::word_at;
 
@@ -161,13 +161,19 @@ fn write<C: BitOp>(a: &[u8], a_offset: usize, b: &[u8], b_offset: usize, len: us
     let whole = len / 64;
     let front = 64 * whole;
     combine::<C>(a, a_offset, b, b_offset, front, &mut out[..8 * whole]);
-    let last = last_word::<C>(a, a_offset + front, b, b_offset + front, len % 64);
-    put_last(out, last, len);
+    let last = combine_remainder::<C>(a, a_offset + front, b, b_offset + front, len % 64);
+    put_remainder(out, last, len);
 }
 
 // A word whose lowest `rest` bits are the values that `C` makes of so many.
 #[inline(always)]
-fn last_word<C: BitOp>(a: &[u8], a_offset: usize, b: &[u8], b_offset: usize, rest: usize) -> u64
+fn combine_remainder<C: BitOp>(
+    a: &[u8],
+    a_offset: usize,
+    b: &[u8],
+    b_offset: usize,
+    rest: usize,
+) -> u64
     requires { rest < 64 }
     ensures { take rest (word_bits result)
         ≡ combined C.of_bits (bitmap a.now a_offset rest) (bitmap b.now b_offset rest) }

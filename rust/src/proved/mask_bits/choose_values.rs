@@ -36,7 +36,7 @@ impl BitBuffer {
     pub(crate) fn choose_values_proved(&self, of: &BitBuffer) -> Result<BitBuffer, AllocError> {
         let mut bytes = crate::kit::filled(0u8, 8 * started_words(self.true_count()))?;
         let last = put_chosen(&self.chunks(), &of.chunks(), &mut bytes);
-        put_last(&mut bytes, last);
+        put_last_chosen(&mut bytes, last);
         Ok(BitBuffer::new_proved(Bytes::from_vec(bytes)?, last.count))
     }
 }
@@ -108,7 +108,7 @@ fn put_pairs(masks: &BitChunks<'_>, values: &BitChunks<'_>, out: &mut [u8]) -> L
 
 // Writes the values past the whole words, where there are any.
 #[inline]
-fn put_last(out: &mut [u8], last: LastChosen) {
+fn put_last_chosen(out: &mut [u8], last: LastChosen) {
     if last.count % 64 != 0 {
         set_word(out, last.count / 64, last.word);
     }

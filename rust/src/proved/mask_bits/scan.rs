@@ -20,7 +20,7 @@ pub(crate) fn next_word(chunks: &BitChunks<'_>, at: usize, word: u64) -> Option<
     let mut word = word;
     while word == 0 {
         if at + 1 >= whole {
-            return last_word(chunks, at);
+            return next_remainder(chunks, at);
         }
         at += 1;
         word = chunks.word_proved(at);
@@ -30,7 +30,7 @@ pub(crate) fn next_word(chunks: &BitChunks<'_>, at: usize, word: u64) -> Option<
 
 // The same where nothing is left of word `at`, and no whole word comes after it.
 #[inline]
-fn last_word(chunks: &BitChunks<'_>, at: usize) -> Option<(usize, u64)> {
+fn next_remainder(chunks: &BitChunks<'_>, at: usize) -> Option<(usize, u64)> {
     if chunks.started_words() <= at + 1 {
         return None;
     }

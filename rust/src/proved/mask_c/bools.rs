@@ -3,7 +3,7 @@
 
 use crate::kit::prelude::*;
 use crate::proved::mask_bits::bools::{put_bools, word_of_bools};
-use crate::proved::mask_c::last::put_last;
+use crate::proved::mask_c::last::put_remainder;
 
 /// Writes truth values as a bitmap, from bit 0 on.
 ///
@@ -12,5 +12,5 @@ use crate::proved::mask_c::last::put_last;
 pub fn row_mask_from_bools(values: &[bool], out: &mut [u8]) {
     let whole = values.len() / 64;
     put_bools(&mut out[..8 * whole], &values[..64 * whole]);
-    put_last(out, word_of_bools(&values[64 * whole..]), values.len());
+    put_remainder(out, word_of_bools(&values[64 * whole..]), values.len());
 }

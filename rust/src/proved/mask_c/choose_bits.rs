@@ -4,7 +4,7 @@
 use crate::kit::prelude::*;
 use crate::proved::mask_bits::BitChunks;
 use crate::proved::mask_bits::choose_values::put_chosen;
-use crate::proved::mask_c::last::put_last;
+use crate::proved::mask_c::last::put_remainder;
 
 /// Writes the values of `values` at the true values of the bitmap, in their order, and answers how many
 /// they are. So the validity of a column is filtered with its rows.
@@ -22,6 +22,6 @@ pub fn row_mask_choose_bits(
     let masks = BitChunks::new_proved(bytes, offset, len);
     let sources = BitChunks::new_proved(values, values_offset, len);
     let last = put_chosen(&masks, &sources, out);
-    put_last(out, last.word, last.count);
+    put_remainder(out, last.word, last.count);
     last.count
 }

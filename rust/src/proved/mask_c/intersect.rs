@@ -5,7 +5,7 @@ use crate::kit::prelude::*;
 use crate::proved::mask_bits::BitChunks;
 use crate::proved::mask_bits::counts::count_bits;
 use crate::proved::mask_bits::words::{set_word, word_at};
-use crate::proved::mask_c::last::put_last;
+use crate::proved::mask_c::last::put_remainder;
 use crate::proved::mask_c::pointwise::row_mask_copy;
 use crate::proved::vortex_mask::intersect_by_rank::{
     DepositBits, Portable, PortableLoop, RankBits, deposits_by_loop, narrow_at_ranks,
@@ -32,19 +32,23 @@ pub fn row_mask_intersect_by_rank(
         return;
     }
     let whole = len / 64;
-    let (word, ones) = last_word(bytes, offset, len);
+    let (word, ones) = remainder_and_count(bytes, offset, len);
     let before = ranks_len - ones;
     let front = BitChunks::new_proved(bytes, offset, 64 * whole);
     let bits = RankBits::over_proved(ranks, ranks_offset, before);
     let are_few = crate::native::by_loop(64 * whole, before);
     narrow_whole(&front, &bits, are_few, &mut out[..8 * whole]);
     let source = word_at(ranks, ranks_offset + before);
-    put_last(out, crate::native::quickest!(Portable::deposit_bits_proved(source, word, ones)), len);
+    put_remainder(
+        out,
+        crate::native::quickest!(Portable::deposit_bits_proved(source, word, ones)),
+        len,
+    );
 }
 
 // The values past the whole words in the low bits of a word, and how many of them are true.
 #[inline]
-fn last_word(bytes: &[u8], offset: usize, len: usize) -> (u64, usize) {
+fn remainder_and_count(bytes: &[u8], offset: usize, len: usize) -> (u64, usize) {
     let word = BitChunks::new_proved(bytes, offset, len).remainder_bits();
     (word, word.count_ones() as usize)
 }
@@ -124,11 +128,11 @@ fn narrow_at<D: DepositBits>(
     out: &mut [u8],
 ) {
     let whole = len / 64;
-    let (word, ones) = last_word(bytes, offset, len);
+    let (word, ones) = remainder_and_count(bytes, offset, len);
     let (cut, bits) = last_ranks(ranks, true_count - ones);
     let front = BitChunks::new_proved(bytes, offset, 64 * whole);
     narrow_at_ranks::<D>(&front, &ranks[..cut], &mut out[..8 * whole]);
-    put_last(out, D::deposit_bits_proved(bits, word, ones), len);
+    put_remainder(out, D::deposit_bits_proved(bits, word, ones), len);
 }
 
 // How many ranks are below `from`, and the others as set bits, that of `from` lowest.

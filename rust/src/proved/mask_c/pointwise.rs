@@ -4,7 +4,7 @@
 use crate::kit::prelude::*;
 use crate::proved::mask_bits::combine::{And, AndNot, BitOp, Not, Or, Xor, combine};
 use crate::proved::mask_bits::words::word_at;
-use crate::proved::mask_c::last::put_last;
+use crate::proved::mask_c::last::put_remainder;
 
 // The first, whatever the second is.
 struct First;
@@ -106,13 +106,19 @@ fn write<C: BitOp>(
     let whole = len / 64;
     let front = 64 * whole;
     combine::<C>(a, a_offset, b, b_offset, front, &mut out[..8 * whole]);
-    let last = last_word::<C>(a, a_offset + front, b, b_offset + front, len % 64);
-    put_last(out, last, len);
+    let last = combine_remainder::<C>(a, a_offset + front, b, b_offset + front, len % 64);
+    put_remainder(out, last, len);
 }
 
 // A word whose lowest `rest` bits are the values that `C` makes of so many.
 #[inline(always)]
-fn last_word<C: BitOp>(a: &[u8], a_offset: usize, b: &[u8], b_offset: usize, rest: usize) -> u64 {
+fn combine_remainder<C: BitOp>(
+    a: &[u8],
+    a_offset: usize,
+    b: &[u8],
+    b_offset: usize,
+    rest: usize,
+) -> u64 {
     // past the last byte nothing is read
     if rest == 0 { 0 } else { C::of(word_at(a, a_offset), word_at(b, b_offset)) }
 }

@@ -9,7 +9,7 @@ returns-clause-values c =
     let word = c.word_of_bools.result in
     let w = 64 * (length m / 64) in
     let rest = length m % 64 in
-    c.put_last.ensures.list
+    c.put_remainder.ensures.list
     ∙ written (take w m) (drop w m) front _ word (length m) (omega (arith, c.put_bools.auto.bytes, length-take (8 * (length m / 64)) c.args.out.now, c.requires))
     (ap (bitmap front 0) (sym (length-take-le w m (omega arith))) ∙ list-from_bits (take w m) front c.put_bools.ensures)
     (ext_get_or false (take rest (word_bits word)) (drop w m) (length-take rest (word_bits word) ∙ omega (arith, length-word_bits word, length-drop w m)) (λ j h.

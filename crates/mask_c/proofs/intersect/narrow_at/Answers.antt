@@ -5,7 +5,7 @@ use Rattle.mask_c.proofs.intersect.narrow_at.Goals as goal
 
 pub narrow_at_ranks-requires-clause-within : goal.narrow_at_ranks-requires-clause-within
 narrow_at_ranks-requires-clause-within g c =
-    let is : c.args.true_count - c.last_word-word.result.1 ≡ count c.new-front.result = omega (arith, c.requires.counted, c.last_word-word.ensures.all, ap count c.new-front.ensures.list) in
+    let is : c.args.true_count - c.remainder_and_count-word.result.1 ≡ count c.new-front.result = omega (arith, c.requires.counted, c.remainder_and_count-word.ensures.all, ap count c.new-front.ensures.list) in
     subst (λ n. All (λ k. k < n) (take c.last_ranks-cut.result.0 c.args.ranks.now)) is (below-all c.args.ranks.now _ _ c.last_ranks-cut.ensures.split)
 
 pub returns-clause-values : goal.returns-clause-values
@@ -16,21 +16,21 @@ returns-clause-values g c =
     let a = c.new-front.result in
     let cut = c.last_ranks-cut.result.0 in
     let bits = c.last_ranks-cut.result.1 in
-    let mask = c.last_word-word.result.0 in
+    let mask = c.remainder_and_count-word.result.0 in
     let k = count (word_bits mask) in
-    let n = c.args.true_count - c.last_word-word.result.1 in
+    let n = c.args.true_count - c.remainder_and_count-word.result.1 in
     let last = take k (word_bits bits) in
-    let few : k ≤ 64 = omega (arith, c.last_word-word.ensures.few, c.last_word-word.ensures.ones) in
-    let is_n : count a ≡ n = omega (arith, c.requires.counted, c.last_word-word.ensures.all, ap count c.new-front.ensures.list) in
-    let all : n + k ≡ count m = omega (arith, c.requires.counted, c.last_word-word.ensures.all, c.last_word-word.ensures.ones) in
+    let few : k ≤ 64 = omega (arith, c.remainder_and_count-word.ensures.few, c.remainder_and_count-word.ensures.ones) in
+    let is_n : count a ≡ n = omega (arith, c.requires.counted, c.remainder_and_count-word.ensures.all, ap count c.new-front.ensures.list) in
+    let all : n + k ≡ count m = omega (arith, c.requires.counted, c.remainder_and_count-word.ensures.all, c.remainder_and_count-word.ensures.ones) in
     let within = subst (λ i. All (λ r. r < i) (take cut ranks)) (sym is_n) (below-all ranks n cut c.last_ranks-cut.ensures.split) in
-    c.put_last.ensures.list
+    c.put_remainder.ensures.list
     ∙ written-narrowed c.args.bytes.now c.args.offset c.args.len (true_at n (take cut ranks)) front _ mask bits c.deposit_bits.result
     (omega (arith, c.narrow_at_ranks.auto.out, length-take (8 * (c.args.len / 64)) c.args.out.now, c.requires.room))
     (length-true_at n (take cut ranks) ∙ omega (arith, is_n, ap count c.new-front.ensures.list))
     (ap (bitmap front 0) (sym c.new-front.ensures.len) ∙ c.narrow_at_ranks.ensures.list ∙ sym (narrowed_at a (take cut ranks) (ascending-take cut ranks c.requires.ascending) within)
     ∙ ap₂ (λ x i. rank_intersection x (true_at i (take cut ranks))) c.new-front.ensures.list is_n)
-    c.last_word-word.ensures.word (deposit_is_rank_intersection bits mask c.deposit_bits.result c.deposit_bits.ensures)
+    c.remainder_and_count-word.ensures.word (deposit_is_rank_intersection bits mask c.deposit_bits.result c.deposit_bits.ensures)
     ∙ ap (rank_intersection m)
     (sym (ranks-parts ranks n k cut last c.last_ranks-cut.ensures.split (omega (arith, length-take k (word_bits bits), length-word_bits bits)) (λ j h.
     get_or-take k (word_bits bits) j false h ∙ c.last_ranks-cut.ensures.bits j (omega arith)))

@@ -14,8 +14,8 @@ returns-then-ranks_len-len-clause-values c =
 
 pub narrow_whole-requires-clause-fitting : goal.narrow_whole-requires-clause-fitting
 narrow_whole-requires-clause-fitting c =
-    ap (λ (p : Packed). length (values p)) c.over-bits.ensures.bits ∙ length-bitmap c.args.ranks.now c.args.ranks_offset (c.args.ranks_len - c.last_word-word.result.1)
-    ∙ omega (arith, c.requires.fitting, c.last_word-word.ensures.all, ap count c.new-front.ensures.list)
+    ap (λ (p : Packed). length (values p)) c.over-bits.ensures.bits ∙ length-bitmap c.args.ranks.now c.args.ranks_offset (c.args.ranks_len - c.remainder_and_count-word.result.1)
+    ∙ omega (arith, c.requires.fitting, c.remainder_and_count-word.ensures.all, ap count c.new-front.ensures.list)
 
 pub returns-clause-values : goal.returns-clause-values
 returns-clause-values c =
@@ -23,19 +23,19 @@ returns-clause-values c =
     let ranks = c.args.ranks.now in
     let len = c.args.len in
     let begin = c.args.ranks_offset in
-    let mask = c.last_word-word.result.0 in
-    let ones = c.last_word-word.result.1 in
+    let mask = c.remainder_and_count-word.result.0 in
+    let ones = c.remainder_and_count-word.result.1 in
     let before = c.args.ranks_len - ones in
     let source = c.word_at-source.result in
     let front = c.narrow_whole.new.out in
-    let all : before + ones ≡ c.args.ranks_len = omega (arith, c.requires.fitting, c.last_word-word.ensures.all) in
+    let all : before + ones ≡ c.args.ranks_len = omega (arith, c.requires.fitting, c.remainder_and_count-word.ensures.all) in
     let reads : take (count (word_bits mask)) (word_bits source) ≡ bitmap ranks (begin + before) ones
-    = ap₂ take (sym c.last_word-word.ensures.ones) c.word_at-source.ensures ∙ window-take ranks (begin + before) ones c.last_word-word.ensures.few in
-    c.put_last.ensures.list
+    = ap₂ take (sym c.remainder_and_count-word.ensures.ones) c.word_at-source.ensures ∙ window-take ranks (begin + before) ones c.remainder_and_count-word.ensures.few in
+    c.put_remainder.ensures.list
     ∙ written-narrowed bytes c.args.offset len (bitmap ranks begin before) front _ mask source c.deposit_bits.result
     (omega (arith, c.narrow_whole.auto.out, length-take (8 * (len / 64)) c.args.out.now, c.requires.room))
-    (length-bitmap ranks begin before ∙ omega (arith, c.requires.fitting, c.last_word-word.ensures.all))
+    (length-bitmap ranks begin before ∙ omega (arith, c.requires.fitting, c.remainder_and_count-word.ensures.all))
     (ap (bitmap front 0) (sym c.new-front.ensures.len) ∙ c.narrow_whole.ensures ∙ ap₂ rank_intersection c.new-front.ensures.list (ap values c.over-bits.ensures.bits))
-    c.last_word-word.ensures.word (deposit_is_rank_intersection source mask c.deposit_bits.result c.deposit_bits.ensures)
+    c.remainder_and_count-word.ensures.word (deposit_is_rank_intersection source mask c.deposit_bits.result c.deposit_bits.ensures)
     ∙ ap (rank_intersection (bitmap bytes c.args.offset len))
     (ap (λ (xs : List Bool). bitmap ranks begin before ++ xs) reads ∙ sym (bitmap-append ranks begin before ones) ∙ ap (bitmap ranks begin) all)

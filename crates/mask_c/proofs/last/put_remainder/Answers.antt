@@ -1,6 +1,6 @@
 use Rattle.mask_c.proofs.Common.{◌∙◌, arith, behind-later, drop-put_mid}
 use Rattle.mask_c.proofs.LastLemmas.{put-behind, put-clear, put-cut}
-use Rattle.mask_c.proofs.last.put_last.Goals as goal
+use Rattle.mask_c.proofs.last.put_remainder.Goals as goal
 
 pub returns-clause-list : goal.returns-clause-list
 returns-clause-list c =

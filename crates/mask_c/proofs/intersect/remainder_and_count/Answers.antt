@@ -1,6 +1,6 @@
 use Rattle.mask_c.proofs.Common.{◌+◌, ◌*◌, ◌/◌, sym, ap, ◌∙◌, bitmap, count, padded_remainder, count-word_bits}
 use Rattle.mask_c.proofs.LastLemmas.{count-remainder}
-use Rattle.mask_c.proofs.intersect.last_word.Goals as goal
+use Rattle.mask_c.proofs.intersect.remainder_and_count.Goals as goal
 
 pub returns-clause-ones : goal.returns-clause-ones
 returns-clause-ones c = sym (count-word_bits c.remainder_bits-word.result c.remainder_bits-word.type_inv)

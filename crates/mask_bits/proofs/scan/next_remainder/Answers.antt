@@ -1,6 +1,6 @@
 use Rattle.mask_bits.proofs.Common.{◌≡◌, ◌+◌, ◌<◌, length, ◌∙◌, sym, subst, arith, word_bits, padded_part, started_words}
 use Rattle.mask_bits.proofs.Lists.Words.WalkLemmas.{left_of-next, left_of-last}
-use Rattle.mask_bits.proofs.scan.last_word.Goals as goal
+use Rattle.mask_bits.proofs.scan.next_remainder.Goals as goal
 
 pub returns-then-word-eq0-clause-none : goal.returns-then-word-eq0-clause-none
 returns-then-word-eq0-clause-none c =
