@@ -36,7 +36,7 @@ def public_items(text, name):
             signature, clauses = ["type", *words(source.text(i, last))[2:]], []
             if kind == "fn":
                 signature = words(Function(source, i, last).signature(before=""))
-                clauses, last = Erasure(None, source, set(), {}, Counts()).clauses(last, end)
+                clauses, last = Erasure(None, source, set(), set(), Counts()).clauses(last, end)
             begin, i = i, source.partner.get(last, last)
             owed = [it for word, _, it in clauses if word == "requires"]
             shown = re.sub(r"\bmut (?=\w+ : )", "", " ".join(signature))

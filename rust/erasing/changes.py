@@ -14,12 +14,12 @@ PLACES = {
     "mask_bench": ("tests/jobs", "crate"),
 }
 INSIDE = ["mask_bits", "vortex_mask", "mask_c"]
-KIT = {it: "crate::kit" if it in INSIDE else "row_mask::kit" for it in PLACES}
+KIT = {it: "crate::kit" if it in INSIDE else "::row_mask::kit" for it in PLACES}
 GONE = {"std::alloc::Global", "std::marker::Model", "thiserror::Error", "std::rt::Env"}
 # Where these paths stand outside the package's own modules, and inside.
 ELSEWHERE = [
     {
-        "mask_bits::extract::extract": "row_mask::intersect_by_rank::extract",
+        "mask_bits::extract::extract": "::row_mask::intersect_by_rank::extract",
         "std::env": "crate::host::env",
         "std::io": "crate::host::io",
         "std::io::BufRead": "crate::host::BufRead",
@@ -27,7 +27,7 @@ ELSEWHERE = [
     },
     {},
 ]
-for inside, kit in enumerate(["row_mask::kit", "crate::kit"]):
+for inside, kit in enumerate(["::row_mask::kit", "crate::kit"]):
     ELSEWHERE[inside] |= {
         "bytes::Bytes": f"{kit}::Bytes",
         "bytes::BytesMut": f"{kit}::BytesMut",
@@ -49,6 +49,24 @@ QUICKEST = "the processor's deposits"
 # Tests of rows that calls by hand hand on to private functions may count what they are asked.
 CLOSURES = "tests of rows"
 ALLOCATOR = r"(?:\w+\.)*alloc\b(?!\s*[:(!])"
+# Methods of Rust's own lists, texts and iterators that end the program where memory is refused, or have another meaning,
+# and what `kit` has in their place.
+RENAMED = {
+    "collect": "try_collected",
+    "push": "try_push",
+    "push_str": "try_push_str",
+    "resize": "try_resize",
+    "shrink_to_fit": "shrink_or_stay",
+    "to_vec": "try_to_vec",
+}
+# Types and traits that have another name here, or a function that has, which no other one may have the name of.
+RUSTS_OWN = ["Arc", "Clone", "Rc", "String", "TryClone", "Vec"]
+# What the name of a call with conditions has behind it where it tests nothing.
+PROVED = "_proved"
+# Methods that Rust's pointers have beside those of what they point to.
+OF_POINTERS = "as_mut as_ref borrow borrow_mut clone cmp eq fmt ge gt hash into le lt max min ne partial_cmp to_string".split()
+LISTS = "lists and texts"
+CALLS = "calls inside the package"
 RULES = [
     ("the allocator", r",\s*\$alloc(:ident)?", ""),
     ("the allocator", r"let \$alloc = \$o\.alloc;", ""),
@@ -61,21 +79,13 @@ RULES = [
     ("the allocator", rf"\(\s*{ALLOCATOR}\s*\)", "()"),
     ("laws", r"\b(?:mask_bits::|vortex_mask::|crate::)?laws::\w+(?:::<[^>]*>)?\((?:[^()]|\([^()]*\))*\);", ""),
     ("`prove!(..)`", r"\bprove!\((?:[^()]|\([^()]*\))*\);", ""),
-    ("what takes memory", r"\.clone\(\)", ".try_clone()"),
-    ("what takes memory", r"\bfn clone\(", "fn try_clone("),
-    ("what takes memory", r"\b(\w+): Clone\b", r"\1: {kit}::TryClone"),
-    ("what takes memory", r"\.collect\(\)", ".collected()"),
-    ("what takes memory", r"\.(push|push_str|resize|to_string|to_vec)\(", r".try_\1("),
-    ("what takes memory", r"\.shrink_to_fit\(", ".shrink_or_stay("),
-    ("what takes memory", r"\b(Vec|String)::with_capacity\(", r"\1::with_room("),
-    ("what takes memory", r"\bString::from_str\(", "String::try_from_str("),
-    ("what takes memory", r"\bwrite!\(((?!f\b)[\w.]+),\s*([^()]*)\)", r"\1.try_write(format_args!(\2))"),
-    ("what takes memory", r"\bRc::new\(", "{kit}::shared("),
-    ("`Rc`", r"\bRc(?=[<:])", "Arc"),
-    ("shifts", r"(<<|>>) (\w+x\d+)::splat\(", r"\1 \2::every("),
-    ("shifts", r"\blet step = (\w+x\d+)::splat\(", r"let step = \1::every("),
+    *((LISTS, rf"((?:\bfn|::)\s*|(?<!\.)\.\s*(?={it}\s*(?:\(|::))){it}\b", rf"\1{here}") for it, here in RENAMED.items()),
+    (LISTS, r"\b(Vec|String)::with_capacity\(", r"\1::with_room("),
+    (LISTS, r"\bRc::new\(", "{kit}::shared("),
+    ("`Rc`", r"\bRc\b", "Arc"),
+    ("the bound `Clone`", r"(?<=[:+] )Clone\b", "TryClone"),
+    ("modules", r"(?<![\w:])std::mem::", "::core::mem::"),
     ("`fmt`", r"fn fmt<W: fmt::Write>\(&self, f: &mut fmt::Formatter<W>\)", "fn fmt(&self, f: &mut fmt::Formatter<'_>)"),
-    ("`fmt`", r"\b([\w.()]+)\.fmt\(f\)", r"fmt::Debug::fmt(\1, f)"),
     ("the program's handle", r"\b(e?println)!\(rt;\s*", r"crate::host::\1!(rt; "),
     (QUICKEST, r"\b([\w:]+)::<Portable(, _)?>\(([^()]*)\)", r"crate::native::quickest!(\1::<Portable\2>(\3))"),
     (QUICKEST, r"\bPortable::(deposit_bits)\(([^()]*)\)", r"crate::native::quickest!(Portable::\1(\2))"),
@@ -116,47 +126,31 @@ def changed(crate, text, found, twins):
         masked.text, count = re.subn(pattern, into, masked.text)
         found[rule][0] += count
     if crate in INSIDE:
-        masked.text = by_body(masked.text, twins, found)
+        masked.text = by_body(masked.text, twins, LAWFUL, found)
     if left := LEFT.search(masked.text):
         line = masked.text[: left.start()].count("\n")
         raise Fault(f"`{left[0]}` is left: {masked.text.splitlines()[line].strip()}")
     return masked.shown()
 
 
-def by_body(text, twins, found):
-    """Has calls inside the package go to what has the body, and tests nothing.
+def by_body(text, twins, lawful, found):
+    """Has calls inside the package go to what has the body, and tests nothing. A call by a type's path goes there where that
+    type has one, and a method's call where any type has one of the name: other types have a method of both names.
 
-    >>> by_body("a.set(i); a.set(); A::new(b); B::new(b); D::bits(1)", {("A", "set"): 1, ("A", "new"): 1, ("D", "bits"): 1}, Counts())
-    'a.set_proved(i); a.set(); A::new_proved(b); B::new(b); D::bits_proved(1)'
+    >>> twins = {("A", "set"), ("A", "new"), ("D", "bits")}
+    >>> by_body("a.set(i); A::new(b); B::new(b); a.new(); T::bits(1); A::set; f::set(i)", twins, ["D"], {CALLS: [0, 0]})
+    'a.set_proved(i); A::new_proved(b); B::new(b); a.new_proved(); T::bits_proved(1); A::set; f::set(i)'
     """
-    methods = collections.defaultdict(set)
-    for (of, name), operands in twins.items():
-        methods[name].add(operands)
-    traits = {name for of, name in twins if of in LAWFUL}
+    methods = {name for _, name in twins}
+    of_traits = {name for of, name in twins if of in lawful}
 
     def renamed(match):
         on, name = match["on"], match["name"]
-        if on == ".":
-            fits = name in methods and number_of_operands(text, match.end()) in methods[name]
-        else:
-            fits = (on.removesuffix("::"), name) in twins or name in traits or (on == "D::" and name in methods)
-        found["calls inside the package"][0] += fits
-        return match[0].replace(name, name + "_proved", 1) if fits else match[0]
+        fits = name in methods if on == "." else (on.removesuffix("::"), name) in twins or name in of_traits
+        found[CALLS][0] += fits
+        return match[0].replace(name, name + PROVED, 1) if fits else match[0]
 
-    return re.sub(r"(?P<on>\.|\b[A-Z]\w*::)(?P<name>\w+)(::<[^()]*?>)?\(", renamed, text)
-
-
-def number_of_operands(text, i):
-    """How many operands a call has, from behind its bracket on."""
-    depth, commas, last = 0, 0, "("
-    while depth >= 0:
-        it = text[i]
-        depth += (it in "([{") - (it in ")]}")
-        commas += it == "," and not depth
-        if depth >= 0 and not it.isspace():
-            last = it
-        i += 1
-    return commas + (last not in "(,")
+    return re.sub(r"(?P<on>(?<!\.)\.|\b[A-Z]\w*::)(?P<name>\w+)(::<[^()]*?>)?\(", renamed, text)
 
 
 class Counts(collections.defaultdict):

@@ -1,11 +1,13 @@
 """What is left of the items of a source when contracts are taken out."""
 import collections
+import copy
 import re
 
 from erasing import marks
-from erasing.changes import CORE, ELSEWHERE, GONE, INSIDE, LAWFUL, PLACES, REPLACED, SAME
+from erasing.changes import CORE, ELSEWHERE, GONE, INSIDE, LAWFUL, PLACES, PROVED, REPLACED, SAME
 from erasing.conditions import TESTS, Condition
 from erasing.levels import between, by_pext, levelled
+from erasing.names import Names
 from erasing.tokens import Fault, attached, leaves, spaced
 
 GENERIC = r"(?:\s*<(?:[^<>]|<[^<>]*>|->)*>)?"
@@ -50,6 +52,9 @@ class Function:
         kinds = {it.split(":")[0] for it in self.generics if re.match(r"\w+: Iterator<", it)}
         return {name: it for name, it in self.types().items() if it in kinds}
 
+    def is_method(self):
+        return bool(self.parameters) and self.parameters[0].endswith("self")
+
     def signature(self, name=None, before=None, widened=False):
         generics = [DROP.sub("", it) for it in self.generics]
         if widened:
@@ -65,17 +70,16 @@ class Function:
         generics = ["_" if it in anew else it for it in generics if not it.startswith("'")]
         turbofish = f"::<{', '.join(generics)}>" if generics else ""
         handed = [f"{it}.into_iter()" if it in listed else it for it in list(self.types())[:-1]]
-        is_method = bool(self.parameters) and self.parameters[0].endswith("self")
-        on = "self." if is_method else f"{of}::" if of else ""
+        on = "self." if self.is_method() else f"{of}::" if of else ""
         return f"{on}{name}{turbofish}({', '.join(handed)})"
 
 
-class Erasure:
+class Erasure(Names):
     """What is left of a file of a crate.
 
     >>> from erasing.changes import Counts
     >>> from erasing.tokens import Source
-    >>> made = lambda text: Erasure("mask_bits", Source(text), set(), {}, Counts()).all()
+    >>> made = lambda text: Erasure("mask_bits", Source(text), set(), set(), Counts()).all()
     >>> made("// rust: visible\\nfn f() {}")
     '#[inline]\\npub(crate) fn f() {}'
     >>> made("// rust: visibly\\nfn f() {}")
@@ -92,12 +96,14 @@ class Erasure:
     erasing.tokens.Fault: source: a mark stands above no item
     """
 
-    def __init__(self, crate, source, public, twins, counts):
+    def __init__(self, crate, source, public, twins, counts, known=()):
         self.crate, self.source = crate, source
         # names that the package hands out
         self.public = public
-        # calls of which one tests conditions and another has the body, each with its number of operands
-        self.twins = twins
+        # calls of which one tests conditions and another has the body: those found here, and those of all files
+        self.twins, self.known = twins, known
+        # names of types that are defined here
+        self.types = []
         # places and lines, by rule
         self.counts = counts
         # functions that test conditions, of those that are no methods
@@ -205,13 +211,14 @@ class Erasure:
 
     def item_use(self, i, j, end, context, before, attributes):
         last = self.source.find(j, end, [";"]) + 1
-        return before + self.imports(self.source.text(i, j), self.source.text(j + 1, last - 1)), last
+        return before + self.imports(j, self.source.text(i, j), self.source.text(j + 1, last - 1)), last
 
     def item_mod(self, i, j, end, context, before, attributes):
         last = self.source.find(j, end, [";", "{"])
         if self.source.tokens[last][1] == "{":
             self.source.fault(j, "a module within a file")
         name = self.source.word(j, end)
+        self.see_module(j, name)
         if name == "laws":
             return self.taken("laws", i, last + 1, before)
         if place := REPLACED.get(f"{self.crate}::{name}"):
@@ -242,6 +249,7 @@ class Erasure:
         return f"{before}{quality}{DROP.sub('', head)}{{{items}}}", last
 
     def item_trait(self, i, j, end, context, before, attributes):
+        self.see_type(j, end)
         body = self.source.find(j, end, ["{"])
         last = self.source.partner[body] + 1
         name = self.source.word(j, end)
@@ -256,6 +264,7 @@ class Erasure:
         return f"{before}{head}{{{items}}}", last
 
     def item_struct(self, i, j, end, context, before, attributes):
+        self.see_type(j, end)
         first = self.source.find(j, end, ["{", ";"])
         if self.source.tokens[first][1] == ";":
             return before + self.source.text(i, first + 1), first + 1
@@ -303,13 +312,13 @@ class Erasure:
         self.count("errors")
         return f"""
 
-impl core::fmt::Display for {name} {{
-    fn fmt(&self, f: &mut core::fmt::Formatter<'_>) -> core::fmt::Result {{
+impl ::core::fmt::Display for {name} {{
+    fn fmt(&self, f: &mut ::core::fmt::Formatter<'_>) -> ::core::fmt::Result {{
         match self {{ {' '.join(arms)} }}
     }}
 }}
 
-impl core::error::Error for {name} {{}}
+impl ::core::error::Error for {name} {{}}
 """
 
     def item_const(self, i, j, end, context, before, attributes):
@@ -317,21 +326,27 @@ impl core::error::Error for {name} {{}}
         return before + self.source.text(i, last), last
 
     item_static = item_const
-    item_type = item_const
+
+    def item_type(self, i, j, end, context, before, attributes):
+        if context[0] == "file":
+            self.see_type(j, end)
+        return self.item_const(i, j, end, context, before, attributes)
 
     def item_macro(self, i, j, end, context, before, attributes):
         last = j
         while self.source.tokens[last][1] not in "([{":
             last += 1
         last = self.source.partner[last] + 1
+        self.see_macro(j, last)
         if self.source.tokens[last - 1][1] != "}":
             last = self.source.find(last, end, [";"]) + 1
         return before + self.source.text(i, last), last
 
-    def imports(self, head, tree):
+    def imports(self, j, head, tree):
         """The imports of an item `use`, by the paths that they have here."""
         groups = collections.defaultdict(list)
         for path in leaves(tree):
+            self.see_import(j, path)
             here = self.path(path)
             if here is None:
                 self.count("imports")
@@ -350,10 +365,12 @@ impl core::error::Error for {name} {{}}
         if root == "crate":
             return "::".join([PLACES[self.crate][1], *rest])
         if root in INSIDE:
-            return "::".join([PLACES[root][1] if self.crate in INSIDE else "row_mask", *rest])
+            return "::".join([PLACES[root][1] if self.crate in INSIDE else "::row_mask", *rest])
         if path in CORE:
-            return path.replace("std", "core", 1)
-        if root in ("std", "bytes", "thiserror") and path not in SAME:
+            return path.replace("std", "::core", 1)
+        if path in SAME:
+            return f"::{path}"
+        if root in ("std", "bytes", "thiserror"):
             raise Fault(f"{self.source.name}: no place for `{path}`")
         return path
 
@@ -368,7 +385,10 @@ impl core::error::Error for {name} {{}}
             last = self.source.partner[last]
         kind, of = context
         where = function.name if of is None else f"{of}::{function.name}"
-        marked = self.marks
+        marked, more_names = self.marks, ""
+        if marked.named:
+            function, more_names = self.named(j, function, context, clauses)
+        self.see_name(j, function, context)
         if self.is_visible():
             self.count("private functions")
             function.before = "pub(crate) " + function.before
@@ -376,8 +396,8 @@ impl core::error::Error for {name} {{}}
         if marked.told and (kind == "trait impl" or not self.is_public(function, context)):
             raise Fault(f"{self.source.name}: {where} tests nothing, and has the mark `{marked.text}`")
         if kind == "trait impl":
-            is_twin = (of.partition(" for ")[0], function.name) in self.twins
-            name = function.name + ("_proved" if is_twin else "")
+            is_twin = (of.partition(" for ")[0], function.name) in self.known
+            name = function.name + (PROVED if is_twin else "")
             return f"{before}{inline}{function.signature(name)} {body}", last + 1
         levels, is_levelled = "", self.is_levelled()
         if marked.has("copied by PEXT"):
@@ -390,17 +410,20 @@ impl core::error::Error for {name} {{}}
             self.count("levels of the processor")
             body, more = levelled(function, of, body, marked)
             levels = more + levels
+        levels += more_names
         if not self.is_public(function, context):
+            body, levels = self.by_types(function, context, before + inline, body, levels)
             return f"{before}{inline}{function.signature()} {body}{levels}", last + 1
         tests, listed = self.tests(function, clauses, of, where, marked.told)
         before = documented(before, clauses, tests)
         tests = [f"{TESTS}::{it};" for it in tests.values()]
         if lists := lists_first(body, listed):
             body = body[:lists] + "\n" + "\n".join(tests) + body[lists:]
-            return f"{before}#[track_caller]\n{inline}{self.widened(function, body)}", last + 1
+            return f"{before}#[track_caller]\n{inline}{self.widened(function, body)}{levels}", last + 1
         before += inline
         if tests:
             return self.with_tests(function, tests, listed, context, before, body) + levels, last + 1
+        body, levels = self.by_types(function, context, before, body, levels)
         return before + self.widened(function, body) + levels, last + 1
 
     def is_visible(self):
@@ -476,14 +499,14 @@ impl core::error::Error for {name} {{}}
         kind, of = context
         attributes = "".join(f"{it}\n" for it in before.splitlines() if it.strip().startswith("#["))
         docs = "\n".join(it for it in before.splitlines() if not it.strip().startswith("#["))
-        lists = [f"let {it} = crate::kit::Collect::collected({it}.into_iter())?;" for it in listed]
+        lists = [f"let {it} = crate::kit::Collect::try_collected({it}.into_iter())?;" for it in listed]
         head = f"\n{docs}\n#[inline]\n#[track_caller]\n{function.signature(widened=True)}"
         if kind == "file":
             call = function.call(f"inner::{function.name}", None, listed)
             self.tested.append(f"{head} {{\n{' '.join([*lists, *tests, call])}\n}}\n")
             return f"\n\n{attributes}{function.signature()} {body}"
-        self.twins[(of, function.name)] = len(function.types()) - 1
-        name = f"{function.name}_proved"
+        self.twins.add((of, function.name))
+        name = function.name + PROVED
         call = function.call(name, "Self" if kind == "trait" else of, listed)
         quality = "" if kind == "trait" else "pub(crate) "
         hidden = "/// The same, where the caller meets the conditions: else the answer is any, or a panic.\n" if kind == "trait" else ""
@@ -508,7 +531,7 @@ def arm(fields, text):
     """The pattern of a variant, and what it prints.
 
     >>> arm("{ at: usize", '"at {at}"'), arm("(AllocError", '"no memory"'), arm("(MaskError", "transparent")
-    (' { at } => write!(f, "at {at}")', '(..) => f.write_str("no memory")', '(it) => core::fmt::Display::fmt(it, f)')
+    (' { at } => write!(f, "at {at}")', '(..) => f.write_str("no memory")', '(it) => ::core::fmt::Display::fmt(it, f)')
     >>> arm("(usize", '"at {0}"')
     Traceback (most recent call last):
     erasing.tokens.Fault: the text "at {0}" of a variant without named fields has braces
@@ -517,7 +540,7 @@ def arm(fields, text):
     erasing.tokens.Fault: the text "{{}}" of a variant without named fields has braces
     """
     if text == "transparent":
-        return "(it) => core::fmt::Display::fmt(it, f)"
+        return "(it) => ::core::fmt::Display::fmt(it, f)"
     if not fields.startswith("{") and re.search(r"[{}]", text):
         raise Fault(f"the text {text} of a variant without named fields has braces")
     if not fields.startswith("{"):

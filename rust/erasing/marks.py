@@ -13,6 +13,7 @@
 | `// rust: visible` | private functions and modules that calls by hand go to |
 | `// rust: inline` | inlined always: tests of places make it seem too long for that |
 | `// rust: by hand` | nothing of an implementation: the package has its own |
+| `// rust: named NAME` | a method that has this name in public, since Rust's own has that of the source |
 | `// rust: needs TEXT` | what a call says that it needs where its condition is broken, in place of the condition in Rust |
 | `// rust: says TEXT` | what it says then: the text of the Rust crate. The two values stand at its `{}`, or behind it |
 | `.. NAME needs TEXT`, `.. NAME says TEXT` | the same of the condition with this name, of a call that has several |
@@ -27,6 +28,7 @@ CRATES = Path(__file__).resolve().parents[2] / "crates"
 LINE = re.compile(r"^[ \t]*// rust:(.*)\n", re.M)
 LEVEL = re.compile(r"(wide |shifted )?level(?: if (.+?))?( alone)?")
 TOLD = re.compile(r"(?:(\w+) )?(needs|says) (\S.*)")
+NAMED = re.compile(r"named (\w+)")
 OTHERS = ["called at its level", "copied for each level", "copied by PEXT", "visible", "inline", "by hand"]
 HEAD = re.compile(r"^([ \t]*)(?:pub(?:\(\w+\))? )?(?:unsafe )?(?:extern \"C\" )?(fn|mod) (\w+)", re.M)
 
@@ -39,6 +41,8 @@ class Marks:
     ('wide_level', 'len > 128', False, True, False)
     >>> Marks(["within needs `a < b`", "says No {} of {}"]).told
     {'within': ('needs', '`a < b`'), None: ('says', 'No {} of {}')}
+    >>> Marks(["named try_clone"]).named
+    'try_clone'
     >>> Marks(["levels"])
     Traceback (most recent call last):
     erasing.tokens.Fault: no mark is `// rust: levels`
@@ -46,7 +50,7 @@ class Marks:
 
     def __init__(self, words=()):
         self.text = ", ".join(words)
-        self.level = self.much = None
+        self.level = self.much = self.named = None
         self.alone = False
         self.others = set()
         # what is said where a condition is broken, by the condition's name
@@ -58,6 +62,8 @@ class Marks:
             elif match and self.level is None:
                 self.level = f"{(match[1] or '').strip()}_level".lstrip("_")
                 self.much, self.alone = match[2], bool(match[3])
+            elif (match := NAMED.fullmatch(it)) and self.named is None:
+                self.named = match[1]
             elif it in OTHERS and it not in self.others:
                 self.others.add(it)
             else:
@@ -96,6 +102,12 @@ def of_all():
 def named(word):
     """The names of the functions with a mark."""
     return {name for name, _, marks in of_all() if marks.has(word)}
+
+
+@cache
+def public():
+    """The public names of methods that have another one there, by their own."""
+    return {name: marks.named for name, _, marks in of_all() if marks.named}
 
 
 @cache

@@ -9,14 +9,14 @@ from erasing.tokens import CLOSING, OPENING, TOKEN, Fault, spaced
 
 # Words of a source that have another name in what was made of it.
 NAMED = {
-    "clone": "try_clone", "Clone": "TryClone", "collect": "collected", "push": "try_push", "push_str": "try_push_str",
-    "resize": "try_resize", "to_string": "try_to_string", "to_vec": "try_to_vec", "shrink_to_fit": "shrink_or_stay", "with_capacity": "with_room",
-    "Rc": "Arc", "IntoIterator": "Iterator", "splat": "every", "deposits_by_loop": "by_loop",
+    "collect": "try_collected", "push": "try_push", "push_str": "try_push_str", "resize": "try_resize", "to_vec": "try_to_vec",
+    "shrink_to_fit": "shrink_or_stay", "with_capacity": "with_room", "IntoIterator": "Iterator", "deposits_by_loop": "by_loop",
+    "Rc": "Arc", "Clone": "TryClone",
 }
 # Paths that stand before a name on one side or the other.
 PATHS = [
     "crate :: proved :: mask_bits ::", "crate :: proved :: vortex_mask ::", "crate :: host ::",
-    "crate :: native ::", "crate :: kit ::", "row_mask :: kit ::", "row_mask :: intersect_by_rank ::", "row_mask ::", "mask_bits ::",
+    "crate :: native ::", "crate :: kit ::", ":: row_mask :: kit ::", "row_mask :: kit ::", "row_mask :: intersect_by_rank ::", "row_mask ::", "mask_bits ::",
     "vortex_mask ::", "crate ::",
 ]
 # Statements and parts that have to be gone from a source, and that have to be new in what was made.
@@ -45,22 +45,25 @@ NEW = [
     r"let (\w+) = \1 \. into_iter \( \) ;",
     r": Sized(?= \{)",
     r"unsafe(?= (?:trait|impl))",
+    r"# ! \[ no_implicit_prelude \]",
+    # (a method of another name, which goes to the one that has the body)
+    *(rf"pub \( crate \) fn {own} \( & self \) -> [^{{}}]*\{{ self \. {name} \( \) \}}" for own, name in marks.public().items()),
+    r"(?:pub (?:\( crate \) )?)?fn (\w+) [^{}]*\{ self \. \1_proved (?::: < [^{}]* > )?\([^{}()]*\) \}",
     rf"pub \( crate \)(?= fn (?:{'|'.join(sorted(marks.named('visible')))}) )",
 ]
 # Forms that are others, on either side.
 SAME = [
     *((re.split("mask_bits::|vortex_mask::", path)[-1].replace("::", " :: "), name) for name, path in marks.inner().items()),
     (r"vec ! \[ ([^;\]]*) ; ([^\]]*) \]", r"filled ( \1 \2 )"),
-    (r"write ! \( (?!f )((?:\w+ \. )*\w+) ([^()]*) \)", r"\1 . try_write ( format_args ! ( \2 ) )"),
     (r"fn fmt < W : fmt :: Write > \( & self f : & mut fmt :: Formatter < W > \)",
      "fn fmt ( & self f : & mut fmt :: Formatter < '_ > )"),
-    (r"(?<= => )(\S+(?: \. \w+ \( \))?) \. fmt \( f \)", r"fmt :: Debug :: fmt ( \1 f )"),
     (r"quickest ! \( ((?:\w+ :: )*(?:< Portable (?:_ )?>|deposit_bits) \( [^()]* \)) \)", r"\1"),
     (r"FnMut \( & T \) -> bool", "Fn ( & T ) -> bool"),
     (r"test : & mut F", "test : & F"),
     (r"& mut \{ test \}", "& test"),
     (r"Arc :: new", "shared"),
-    (r"String :: from_str", "String :: try_from_str"),
+    (r"std :: mem ::", ":: core :: mem ::"),
+    *((rf"fn {name} \( & self \)", f"fn {own} ( & self )") for own, name in marks.public().items()),
 ]
 
 
@@ -134,9 +137,9 @@ def without_tests(words, name, heads):
             look(" ".join(words[i:body]), " ".join(words[body + 1 : last - 1]), name)
             heads.append(words[i:body])
             i = last
-        elif words[i : i + 4] == ["impl", "core", "::", "fmt"]:
+        elif words[i : i + 5] == ["impl", "::", "core", "::", "fmt"]:
             i = behind(words, words.index("{", i))
-        elif words[i : i + 4] == ["impl", "core", "::", "error"]:
+        elif words[i : i + 5] == ["impl", "::", "core", "::", "error"]:
             i = behind(words, words.index("{", i))
         elif words[i] in ("use", "mod") and (not kept or kept[-1] in (";", "}", "{", "pub", ")", "]")):
             drop_quality(kept)
@@ -238,7 +241,7 @@ def without_copies(words, name):
     return text.split()
 
 
-LISTED = r"let (\w+) = crate :: kit :: Collect :: collected \( \1 \. into_iter \( \) \) \? ;"
+LISTED = r"let (\w+) = crate :: kit :: Collect :: try_collected \( \1 \. into_iter \( \) \) \? ;"
 
 
 def look(head, body, name):

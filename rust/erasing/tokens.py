@@ -50,9 +50,12 @@ class Source:
         if stack:
             self.fault(stack[-1], "a bracket that nothing closes")
 
+    def place(self, i):
+        """The file and the line of a token."""
+        return f"{self.name}:{1 + sum(it.count(chr(10)) for _, it in self.tokens[:i])}"
+
     def fault(self, i, what):
-        line = 1 + sum(it.count("\n") for _, it in self.tokens[:i])
-        raise Fault(f"{self.name}:{line}: {what}")
+        raise Fault(f"{self.place(i)}: {what}")
 
     def text(self, i, end):
         return "".join(it for _, it in self.tokens[i:end])

@@ -14,7 +14,7 @@ pub use bytes::{Bytes, BytesMut};
 pub(crate) use list::zeros;
 pub use list::{Collect, CowSlice, List, ToList, filled};
 pub use shared::{TryClone, shared};
-pub use text::{Text, TryToString};
+pub use text::{Text, ToString};
 
 /// Memory was asked for and refused.
 #[derive(Clone, Copy, Debug, PartialEq, Eq, Hash)]
@@ -45,11 +45,56 @@ impl<T> From<AllocFailed<T>> for AllocError {
     }
 }
 
-/// What the proved sources have in scope.
+/// What the proved sources have in scope, in place of Rust's own prelude: `clone` and `to_string` are calls of traits here,
+/// which report missing memory, as `write!` to a text does. To derive `Clone` is to derive Rust's, and `fmt` is a call of
+/// `Debug`.
 pub mod prelude {
     pub(crate) use super::list::Reserved as _;
-    pub use super::{
-        Collect as _, List as _, Text as _, ToList as _, TryClone as _, TryToString as _,
-    };
+    pub use super::{Collect as _, List as _, Text as _, ToList as _, ToString};
+    pub use super::{TryClone, TryClone as Clone};
     pub use alloc::{boxed::Box, string::String, vec::Vec};
+    pub use core::fmt::Debug as _;
+    pub use core::prelude::rust_2024::*;
+    pub use core::{matches, unreachable, write};
+}
+
+#[cfg(test)]
+mod tests {
+    #![no_implicit_prelude]
+
+    use super::AllocError;
+    use super::prelude::*;
+
+    /// Its derived clone is Rust's own.
+    #[derive(Clone, Debug, PartialEq)]
+    struct Own(u8);
+
+    impl Own {
+        fn clone(&self) -> u8 {
+            self.0
+        }
+
+        fn to_string(&self) -> u8 {
+            self.0 + 1
+        }
+
+        fn write_fmt(&mut self, _: ::core::fmt::Arguments<'_>) -> u8 {
+            self.0 + 2
+        }
+    }
+
+    /// Clones and texts report missing memory, and a type's own calls of these names are its own.
+    #[test]
+    fn names_are_as_in_the_sources() {
+        let mut text: Result<String, AllocError> = 7.to_string();
+        let written: Option<Result<(), AllocError>> =
+            text.as_mut().ok().map(|it| write!(it, "{}", 8));
+        let list: Result<Vec<u8>, AllocError> = Vec::from([1, 2]).clone();
+        ::std::assert_eq!(
+            (text, written, list),
+            (Ok("78".into()), Some(Ok(())), Ok(Vec::from([1, 2])))
+        );
+        let mut own = ::core::clone::Clone::clone(&Own(1));
+        ::std::assert_eq!((own.clone(), own.to_string(), write!(own, "")), (1, 2, 3));
+    }
 }

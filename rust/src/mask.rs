@@ -7,7 +7,7 @@ mod walks;
 use crate::kit::{AllocError, TryClone};
 use crate::memory::granted;
 use crate::proved::mask_bits::{BitBuffer, BitBufferMut};
-use crate::proved::vortex_mask::{Mask, MaskError};
+use crate::proved::vortex_mask::{Mask, MaskError, MaskValues};
 use alloc::vec::Vec;
 use core::fmt;
 use core::hash::{Hash, Hasher};
@@ -23,10 +23,10 @@ macro_rules! operators {
             }
         }
 
-        /// As `clone`.
+        /// As `try_clone`, which is refused only for want of memory.
         impl TryClone for $of {
-            fn try_clone(&self) -> Result<$of, AllocError> {
-                Ok(self.clone())
+            fn clone(&self) -> Result<$of, AllocError> {
+                self.try_clone().map_err(|_| AllocError)
             }
         }
 
@@ -92,6 +92,13 @@ macro_rules! operators {
 }
 
 operators!(BitBuffer Mask);
+
+/// As `try_clone`, which is refused only for want of memory.
+impl TryClone for MaskValues {
+    fn clone(&self) -> Result<MaskValues, AllocError> {
+        self.try_clone().map_err(|_| AllocError)
+    }
+}
 
 /// By the length and the values, as `==`: offsets and the bits outside don't count.
 impl Hash for BitBuffer {

@@ -132,6 +132,7 @@ impl BitBuffer {
     }
 
     /// A buffer of the same backing bytes, at the same offset and length.
+    // rust: named try_clone
     pub fn clone(&self) -> Result<BitBuffer, AllocError>
         ensures { IfOk result (λ b. b ≡ self.now) }
     {

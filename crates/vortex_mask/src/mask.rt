@@ -120,6 +120,7 @@ impl Mask {
     }
 
     /// The same mask, with the lists that this one has cached.
+    // rust: named try_clone
     pub fn clone(&self) -> Result<Mask, MaskError>
         ensures list { IfOk result (λ m. truth m ≡ truth self.now) }
         ensures variant { IfOk result (λ m. variant m ≡ variant self.now) }

@@ -258,5 +258,5 @@ pub(super) fn is_there(schema: &ArrowSchema, array: &ArrowArray) -> bool {
 
 /// A text of its own, or an empty one where it is not of UTF-8, or there is no memory for it.
 fn own(text: &CStr) -> String {
-    text.to_str().ok().and_then(|text| String::try_from_str(text).ok()).unwrap_or_default()
+    text.to_str().ok().and_then(|text| String::from_str(text).ok()).unwrap_or_default()
 }

@@ -229,8 +229,8 @@ impl fmt::Debug for Bytes {
 
 impl TryClone for Bytes {
     #[inline]
-    fn try_clone(&self) -> Result<Bytes, AllocError> {
-        Ok(self.clone())
+    fn clone(&self) -> Result<Bytes, AllocError> {
+        Ok(Clone::clone(self))
     }
 }
 

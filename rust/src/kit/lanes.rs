@@ -1,5 +1,6 @@
 //! Lanes: numbers side by side that are computed with at once, under the names of Rust's portable `std::simd`. Sums,
-//! differences and products wrap. A shift is by one count for all lanes: `lanes << u8x16::every(3)`.
+//! differences and products wrap. A shift is by one count for all lanes, which `splat` makes where a shift asks for it:
+//! `lanes << u8x16::splat(3)`. By other lanes nothing is shifted.
 //!
 //! They lie in registers, as far as a program is compiled for these, on x86-64 and on 64-bit ARM whose words begin with the
 //! lowest byte. Elsewhere they lie in arrays, and with `--cfg row_mask_arrays` everywhere.
@@ -18,8 +19,18 @@ macro_rules! lanes {
         pub struct $name(pub(super) $inner);
 
         impl $name {
+            /// The number in each lane, or the count to shift all lanes by.
             #[inline(always)]
-            pub fn splat($one: $lane) -> Self {
+            pub fn splat<S>(number: $lane) -> S
+            where
+                Self: Splat<$lane, S>,
+            {
+                Self::of_one(number)
+            }
+
+            /// The number in each lane.
+            #[inline(always)]
+            pub fn each($one: $lane) -> Self {
                 Self($splat)
             }
 
@@ -58,12 +69,19 @@ macro_rules! lanes {
             }
         }
 
+        impl Splat<$lane, Self> for $name {
+            #[inline(always)]
+            fn of_one(number: $lane) -> Self {
+                Self::each(number)
+            }
+        }
+
         impl core::ops::Not for $name {
             type Output = Self;
 
             #[inline(always)]
             fn not(self) -> Self {
-                self ^ Self::splat($lane::MAX)
+                self ^ Self::each($lane::MAX)
             }
         }
 
@@ -139,6 +157,25 @@ use neon as taken;
 use sse as taken;
 #[allow(unused_imports, reason = "tests take all of them")]
 pub use taken::{u8x8, u8x16, u8x64, u16x8, u16x16, u32x4, u32x8, u64x2, usizex8};
+
+/// What `splat` makes of a number, by the type that its place asks for: lanes, or a count.
+pub trait Splat<L, S> {
+    fn of_one(number: L) -> S;
+}
+
+/// Lanes that the sources shift.
+macro_rules! shifted {
+    ($($name:ident: $lane:ident)*) => {$(
+        impl Splat<$lane, Every<$lane>> for $name {
+            #[inline(always)]
+            fn of_one(number: $lane) -> Every<$lane> {
+                Self::every(number)
+            }
+        }
+    )*};
+}
+
+shifted!(u8x16: u8 u16x8: u16 u16x16: u16 u32x4: u32 u64x2: u64);
 
 /// By how many bits all lanes are shifted.
 #[derive(Clone, Copy)]

@@ -231,7 +231,7 @@ pub trait Collect: Iterator + Sized {
     /// # Errors
     /// [`AllocError`] where memory is refused.
     #[inline]
-    fn collected(self) -> Result<Vec<Self::Item>, AllocError> {
+    fn try_collected(self) -> Result<Vec<Self::Item>, AllocError> {
         let (least, most) = self.size_hint();
         let mut list = Vec::with_room(least)?;
         if most == Some(least) {

@@ -10,14 +10,14 @@ pub trait TryClone: Sized {
     ///
     /// # Errors
     /// [`AllocError`] where memory is refused.
-    fn try_clone(&self) -> Result<Self, AllocError>;
+    fn clone(&self) -> Result<Self, AllocError>;
 }
 
 macro_rules! copied {
     ($($of:ty)*) => {
         $(impl TryClone for $of {
             #[inline]
-            fn try_clone(&self) -> Result<$of, AllocError> {
+            fn clone(&self) -> Result<$of, AllocError> {
                 Ok(*self)
             }
         })*
@@ -27,35 +27,35 @@ macro_rules! copied {
 copied!(u8 u16 u32 u64 u128 usize i8 i16 i32 i64 i128 isize bool char);
 
 impl<T> TryClone for &T {
-    fn try_clone(&self) -> Result<Self, AllocError> {
+    fn clone(&self) -> Result<Self, AllocError> {
         Ok(*self)
     }
 }
 
 impl<T: Copy> TryClone for &[T] {
-    fn try_clone(&self) -> Result<Self, AllocError> {
+    fn clone(&self) -> Result<Self, AllocError> {
         Ok(*self)
     }
 }
 
 impl<T: TryClone, U: TryClone> TryClone for (T, U) {
-    fn try_clone(&self) -> Result<Self, AllocError> {
-        Ok((self.0.try_clone()?, self.1.try_clone()?))
+    fn clone(&self) -> Result<Self, AllocError> {
+        Ok((T::clone(&self.0)?, U::clone(&self.1)?))
     }
 }
 
 impl<T: TryClone> TryClone for Option<T> {
-    fn try_clone(&self) -> Result<Self, AllocError> {
-        self.as_ref().map(T::try_clone).transpose()
+    fn clone(&self) -> Result<Self, AllocError> {
+        self.as_ref().map(T::clone).transpose()
     }
 }
 
 impl<T: TryClone> TryClone for Vec<T> {
-    fn try_clone(&self) -> Result<Vec<T>, AllocError> {
+    fn clone(&self) -> Result<Vec<T>, AllocError> {
         let mut list = Vec::new();
         list.try_reserve_exact(self.len()).map_err(|_| AllocError)?;
         for item in self {
-            list.push(item.try_clone()?);
+            list.push(T::clone(item)?);
         }
         Ok(list)
     }
@@ -63,8 +63,8 @@ impl<T: TryClone> TryClone for Vec<T> {
 
 impl<T> TryClone for Arc<T> {
     #[inline]
-    fn try_clone(&self) -> Result<Arc<T>, AllocError> {
-        Ok(Arc::clone(self))
+    fn clone(&self) -> Result<Arc<T>, AllocError> {
+        Ok(Clone::clone(self))
     }
 }
 

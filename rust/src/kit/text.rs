@@ -16,7 +16,7 @@ pub trait Text: Sized {
     ///
     /// # Errors
     /// [`AllocError`] where memory is refused.
-    fn try_from_str(text: &str) -> Result<Self, AllocError>;
+    fn from_str(text: &str) -> Result<Self, AllocError>;
 
     /// Puts a text behind it.
     ///
@@ -30,11 +30,11 @@ pub trait Text: Sized {
     /// [`AllocError`] where memory is refused.
     fn try_push(&mut self, character: char) -> Result<(), AllocError>;
 
-    /// Writes behind it what `format_args!` says.
+    /// Writes behind it what `write!` says.
     ///
     /// # Errors
     /// [`AllocError`] where memory is refused.
-    fn try_write(&mut self, what: Arguments<'_>) -> Result<(), AllocError>;
+    fn write_fmt(&mut self, what: Arguments<'_>) -> Result<(), AllocError>;
 }
 
 impl Text for String {
@@ -44,7 +44,7 @@ impl Text for String {
         Ok(text)
     }
 
-    fn try_from_str(text: &str) -> Result<String, AllocError> {
+    fn from_str(text: &str) -> Result<String, AllocError> {
         let mut own = String::with_room(text.len())?;
         own.push_str(text);
         Ok(own)
@@ -60,7 +60,7 @@ impl Text for String {
         self.try_push_str(character.encode_utf8(&mut [0; 4]))
     }
 
-    fn try_write(&mut self, what: Arguments<'_>) -> Result<(), AllocError> {
+    fn write_fmt(&mut self, what: Arguments<'_>) -> Result<(), AllocError> {
         Growing(self).write_fmt(what).map_err(|_| AllocError)
     }
 }
@@ -75,16 +75,16 @@ impl Write for Growing<'_> {
 }
 
 /// The text that `Display` says.
-pub trait TryToString: Display {
+pub trait ToString: Display {
     /// The text.
     ///
     /// # Errors
     /// [`AllocError`] where memory is refused.
-    fn try_to_string(&self) -> Result<String, AllocError> {
+    fn to_string(&self) -> Result<String, AllocError> {
         let mut text = String::new();
-        text.try_write(format_args!("{self}"))?;
+        Text::write_fmt(&mut text, format_args!("{self}"))?;
         Ok(text)
     }
 }
 
-impl<T: Display> TryToString for T {}
+impl<T: Display> ToString for T {}

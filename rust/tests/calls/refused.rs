@@ -4,12 +4,13 @@
 //! that was refused is made once more behind `calls again`. Between `calls` and the next line nothing but the call asks
 //! for memory. The script misses a line that can't be written.
 
+#![no_implicit_prelude]
 use crate::call::Call;
 use crate::host::{AllocGlobal, Input, Print};
 use crate::host::{BufRead, BufReader, io};
 use crate::rows::Row;
 use crate::text::{Detail, Text};
-use row_mask::kit::prelude::*;
+use ::row_mask::kit::prelude::*;
 
 /// Makes the call of each row.
 pub(crate) fn check<R: Input + Print + AllocGlobal>(rt: &R) -> io::Result<usize> {

@@ -2,11 +2,12 @@
 //! Rows: a line each, of calls, their operands and what they answer. Each call is made once on operands that nobody
 //! else holds, and once while a clone of each is held. Operands that it only borrows must read the same afterwards.
 
+#![no_implicit_prelude]
 use crate::call::Call;
 use crate::host::{AllocGlobal, Input, Print};
 use crate::tell::tell_fault;
 use crate::text::{Detail, Text};
-use row_mask::kit::prelude::*;
+use ::row_mask::kit::prelude::*;
 
 use crate::host::{BufRead, BufReader, io};
 

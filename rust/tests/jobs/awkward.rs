@@ -2,13 +2,14 @@
 //! Awkward inputs: alternating and random bits, shares at the thresholds between kernels, stacks of halves, lengths
 //! with 63 left over, many masks of a few rows, and texts.
 
+#![no_implicit_prelude]
 use crate::calls::{bitand, choose, narrow, narrow_all};
 use crate::digest::Digest;
 use crate::numbers::Numbers;
 use crate::table::{Table, part};
-use row_mask::kit::prelude::*;
+use ::row_mask::kit::prelude::*;
 
-use row_mask::{AllOr, Mask, MaskError};
+use ::row_mask::{AllOr, Mask, MaskError};
 
 // Rows of the table.
 const ROWS: u32 = 1 << 20;
@@ -103,7 +104,7 @@ fn few_rows(table: &Table, numbers: &mut Numbers, digest: &mut Digest) -> Result
         let joined = few(table, numbers, digest)?;
         digest.add_mask(&joined);
         if number % 10 == 0 {
-            let text = joined.try_to_string()?;
+            let text = joined.to_string()?;
             digest.add_list(text.as_bytes());
         }
     }

@@ -162,6 +162,7 @@ impl MaskValues {
     }
 
     /// The same values with the same lists cached.
+    // rust: named try_clone
     pub fn clone(&self) -> Result<MaskValues, MaskError>
         ensures same { IfOk result (λ v. v ≡ self.now) }
         ensures refused { IsOkUnless result (MaskError.Memory alloc_error) }

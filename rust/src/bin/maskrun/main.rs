@@ -11,7 +11,6 @@ mod print;
 #[cfg(unix)]
 mod unix;
 
-use row_mask::kit::prelude::*;
 use std::io::{self, Write};
 
 /// The statuses of the program, beside 0.

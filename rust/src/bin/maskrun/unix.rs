@@ -2,7 +2,7 @@
 //! outputs which are closed, so that a line which nobody reads would count as written, and aborts where it finds no memory
 //! for the arguments.
 
-use row_mask::kit::prelude::*;
+use row_mask::kit::{List, Text};
 use std::ffi::{CStr, c_char, c_int};
 use std::fs::File;
 use std::io;
@@ -39,7 +39,7 @@ fn read(words: &[*const c_char]) -> io::Result<Vec<String>> {
     for word in words {
         // SAFETY: the system hands over words that a 0 ends.
         let text = unsafe { CStr::from_ptr(*word) }.to_str();
-        texts.push(String::try_from_str(text.map_err(|_| io::ErrorKind::InvalidInput)?)?);
+        texts.push(String::from_str(text.map_err(|_| io::ErrorKind::InvalidInput)?)?);
     }
     Ok(texts)
 }

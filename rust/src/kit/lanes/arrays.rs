@@ -1,6 +1,6 @@
 //! Lanes in arrays, for every processor. A compiler makes vectors of them where it can.
 
-use super::{Cast, Every, LaneMask};
+use super::{Cast, Every, LaneMask, Splat};
 use core::array::from_fn;
 
 macro_rules! arrays {

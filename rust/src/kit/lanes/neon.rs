@@ -2,7 +2,7 @@
 
 #![allow(unused_unsafe, reason = "an instruction may be an argument of another one")]
 
-use super::{Cast, Every, LaneMask};
+use super::{Cast, Every, LaneMask, Splat};
 use core::arch::aarch64::{uint8x8_t, uint8x16_t, uint16x8_t, uint32x4_t, uint64x2_t};
 use core::array::from_fn;
 use core::mem::transmute;
@@ -117,7 +117,7 @@ methods! {
     u8x16: swizzle_dyn -> u8x16, |lanes, indices| [call!(vqtbl1q_u8(lanes[0], indices[0]))];
     u32x8: swizzle_dyn -> u32x8, |lanes, indices| {
         // A lane is four bytes of 32.
-        let [past, of_first, places] = [8, 0x0404_0404, 0x0302_0100].map(|it| Self::splat(it).0[0]);
+        let [past, of_first, places] = [8, 0x0404_0404, 0x0302_0100].map(|it| Self::each(it).0[0]);
         let [a, b] = lanes.map(|it| call!(vreinterpretq_u8_u32(it)));
         let bytes = core::arch::aarch64::uint8x16x2_t(a, b);
         indices.map(|indices| {
@@ -171,6 +171,6 @@ fn fours(bytes: uint8x8_t) -> [uint32x4_t; 2] {
 /// Of each eight bytes, byte `i` is bit `i` where it is equal, and else 0.
 #[inline(always)]
 fn equal<const N: usize>(a: [uint8x16_t; N], b: [uint8x16_t; N]) -> [uint8x16_t; N] {
-    let [bits] = u64x2::splat(0x8040_2010_0804_0201).to_le_bytes().0;
+    let [bits] = u64x2::each(0x8040_2010_0804_0201).to_le_bytes().0;
     from_fn(|k| call!(vandq_u8(call!(vceqq_u8(a[k], b[k])), bits)))
 }

@@ -1,7 +1,7 @@
 //! Lanes in the registers of SSE2, which each processor of x86-64 has. Instructions of SSSE3 and AVX2 are taken where a
 //! program is compiled for them.
 
-use super::{Cast, Every, LaneMask, arrays};
+use super::{Cast, Every, LaneMask, Splat, arrays};
 use core::arch::x86_64::__m128i;
 use core::array::from_fn;
 use core::mem::transmute;
@@ -104,11 +104,11 @@ operators! {
     u8x16:
     Shl shl Every<u8>, |bytes, count| {
         let shifted = u16x8(bytes) << Every(count.into());
-        (shifted.to_le_bytes() & Self::splat(u8::MAX << count)).0
+        (shifted.to_le_bytes() & Self::each(u8::MAX << count)).0
     };
     Shr shr Every<u8>, |bytes, count| {
         let shifted = u16x8(bytes) >> Every(count.into());
-        (shifted.to_le_bytes() & Self::splat(u8::MAX >> count)).0
+        (shifted.to_le_bytes() & Self::each(u8::MAX >> count)).0
     };
 }
 
@@ -147,11 +147,11 @@ methods! {
 
 casts! {
     u8x16 as u16: u16x16, |bytes| {
-        let ([bytes], [zeros]) = (bytes, Self::splat(0).0);
+        let ([bytes], [zeros]) = (bytes, Self::each(0).0);
         [call!(_mm_unpacklo_epi8(bytes, zeros)), call!(_mm_unpackhi_epi8(bytes, zeros))]
     };
     u16x16 as u8: u8x16, |lanes| {
-        let [first, last] = (Self(lanes) & Self::splat(0xFF)).0;
+        let [first, last] = (Self(lanes) & Self::each(0xFF)).0;
         [call!(_mm_packus_epi16(first, last))]
     };
 }
@@ -178,7 +178,7 @@ fn equal<const N: usize>(a: [__m128i; N], b: [__m128i; N]) -> u64 {
 #[inline(always)]
 fn swizzle(lanes: __m128i, indices: __m128i) -> __m128i {
     // The instruction gives 0 at an index that has the top bit, and else reads the low four.
-    let indices = call!(_mm_adds_epu8(indices, u8x16::splat(128 - 16).0[0]));
+    let indices = call!(_mm_adds_epu8(indices, u8x16::each(128 - 16).0[0]));
     call!(_mm_shuffle_epi8(lanes, indices))
 }
 
@@ -189,22 +189,22 @@ fn swizzle(lanes: __m128i, indices: __m128i) -> __m128i {
     let equal = |a: u8x16, b: u8x16| u8x16([call!(_mm_cmpeq_epi8(a.0[0], b.0[0]))]);
     let indices = u8x16([indices]);
     // Each bit of an index takes one of each two lanes that are left.
-    let mut left = u8x16([lanes]).to_array().map(u8x16::splat);
+    let mut left = u8x16([lanes]).to_array().map(u8x16::each);
     for place in 0..4 {
-        let bit = u8x16::splat(1 << place);
+        let bit = u8x16::each(1 << place);
         let is_set = equal(indices & bit, bit);
         for k in 0..8 >> place {
             left[k] = left[2 * k] ^ ((left[2 * k] ^ left[2 * k + 1]) & is_set);
         }
     }
-    (left[0] & equal(indices & u8x16::splat(0xF0), u8x16::splat(0))).0[0]
+    (left[0] & equal(indices & u8x16::each(0xF0), u8x16::each(0))).0[0]
 }
 
 #[cfg(target_feature = "avx2")]
 mod wide {
     //! The lanes that gain by the registers of AVX2.
 
-    use super::{Cast, Every, from_fn, register, transmute, u8x8};
+    use super::{Cast, Every, Splat, from_fn, register, transmute, u8x8};
     use core::arch::x86_64::__m256i;
 
     registers! {
@@ -230,7 +230,7 @@ mod wide {
 
     methods! {
         u32x8: swizzle_dyn -> u32x8, |lanes, indices| {
-            let ([lanes], [indices], [past]) = (lanes, indices, Self::splat(8).0);
+            let ([lanes], [indices], [past]) = (lanes, indices, Self::each(8).0);
             // The instruction reads the low three bits of an index.
             let made = call!(_mm256_permutevar8x32_epi32(lanes, indices));
             let least = call!(_mm256_max_epu32(indices, past));
@@ -244,7 +244,7 @@ mod wide {
 mod wide {
     //! The same lanes in registers of SSE2, or in arrays.
 
-    use super::{__m128i, Cast, Every, arrays, from_fn, register, transmute, u8x8, u8x16};
+    use super::{__m128i, Cast, Every, Splat, arrays, from_fn, register, transmute, u8x8, u8x16};
 
     pub use arrays::u32x8;
 
@@ -258,7 +258,7 @@ mod wide {
     casts! {
         u8x8 as u32: u32x8, |bytes| bytes.map(u32::from);
         u8x8 as usize: usizex8, |bytes| {
-            let [zeros] = u8x16::splat(0).0;
+            let [zeros] = u8x16::each(0).0;
             let pairs = call!(_mm_unpacklo_epi8(register(u64::from_le_bytes(bytes)), zeros));
             let first = call!(_mm_unpacklo_epi16(pairs, zeros));
             let last = call!(_mm_unpackhi_epi16(pairs, zeros));

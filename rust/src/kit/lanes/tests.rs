@@ -272,7 +272,8 @@ macro_rules! types {
             fn $name() {
                 use super::*;
                 agree!(lanes $name [$lane; $count]: |a, _| {
-                    form::$name::splat(a.to_array()[$count - 1]).to_array()
+                    let all: form::$name = form::$name::splat(a.to_array()[$count - 1]);
+                    all.to_array()
                 }, |a, _| [a[$count - 1]; $count]);
             }
         )*}

@@ -10,7 +10,7 @@ use crate::proved::mask_bits::chunks::BitChunks;
 use crate::proved::mask_bits::counts::count_bits;
 use crate::proved::mask_bits::words::started_words;
 use crate::proved::mask_bits::write_bits::set_bit;
-use core::fmt;
+use ::core::fmt;
 
 /// An immutable list of truth values, packed eight to a byte.
 ///
@@ -177,7 +177,7 @@ impl BitBuffer {
         let bools = bools.into_iter();
         // listed first: a word is packed from 64 values in a row several times as fast as from an
         // iterator, which may end at each
-        let bools: Vec<bool> = bools.collected()?;
+        let bools: Vec<bool> = bools.try_collected()?;
         BitBuffer::from_slice(&bools)
     }
 
@@ -195,8 +195,13 @@ impl BitBuffer {
     /// - `IfOk result (λ b. b ≡ self.now)`
     #[inline(always)]
     pub fn try_clone(&self) -> Result<BitBuffer, AllocError> {
-        let bytes = self.bytes.try_clone()?;
+        let bytes = self.bytes.clone()?;
         Ok(BitBuffer::new_with_offset_proved(bytes, self.offset, self.len))
+    }
+
+    #[inline(always)]
+    pub(crate) fn clone(&self) -> Result<BitBuffer, AllocError> {
+        self.try_clone()
     }
 
     /// The values from `start` to `end`, over the same bytes at the offset of value `start`.
@@ -228,7 +233,7 @@ impl BitBuffer {
 
     #[inline]
     pub(crate) fn slice_proved(&self, start: usize, end: usize) -> Result<BitBuffer, AllocError> {
-        let bytes = self.bytes.try_clone()?;
+        let bytes = self.bytes.clone()?;
         Ok(BitBuffer::new_with_offset_proved(bytes, self.offset + start, end - start))
     }
 
@@ -388,7 +393,12 @@ impl BitBuffer {
     /// - *within*: `IfSome result (λ p. p < length (values self.now))`
     #[inline]
     pub fn select(&self, n: usize) -> Option<usize> {
-        self.chunks().select(n)
+        self.select_proved(n)
+    }
+
+    #[inline]
+    pub(crate) fn select_proved(&self, n: usize) -> Option<usize> {
+        self.chunks().select_proved(n)
     }
 
     /// The index of the last true value, if there is one.

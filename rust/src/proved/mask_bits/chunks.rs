@@ -138,6 +138,11 @@ impl<'a> BitChunks<'a> {
     /// - *within*: `IfSome result (λ p. p < length self.now)`
     #[inline]
     pub fn select(&self, n: usize) -> Option<usize> {
+        self.select_proved(n)
+    }
+
+    #[inline]
+    pub(crate) fn select_proved(&self, n: usize) -> Option<usize> {
         crate::native::by_level!(self.select_v3(n), self.select_any(n))
     }
 

@@ -6,7 +6,7 @@ use crate::kit::prelude::*;
 use crate::proved::mask_bits::bools::{word_of_lanes, word_of_sixteen_lanes};
 use crate::proved::mask_bits::buffer::BitBuffer;
 use crate::proved::mask_bits::words::{set_word, started_words};
-use core::mem::size_of_val;
+use ::core::mem::size_of_val;
 
 // The bytes of 64 rows of 8 bytes. The answers of so wide rows and of wider ones become bits sixteen at a time: as
 // lanes of all 64 they stay in memory.

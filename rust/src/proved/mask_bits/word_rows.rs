@@ -4,7 +4,7 @@
 use crate::kit::prelude::*;
 use crate::proved::mask_bits::room::Room;
 use crate::proved::mask_bits::word_items::{push_by, push_one_by_one};
-use core::mem::size_of_val;
+use ::core::mem::size_of_val;
 
 // A word whose bits are all set.
 const FULL: u64 = u64::MAX;

@@ -10,7 +10,7 @@ use crate::proved::mask_bits::unchecked::put_indices;
 /// The index of true value number `n`, counted from 0, and `len` where there is none.
 #[inline]
 pub fn row_mask_select(bytes: &[u8], offset: usize, len: usize, n: usize) -> usize {
-    BitChunks::new_proved(bytes, offset, len).select(n).unwrap_or(len)
+    BitChunks::new_proved(bytes, offset, len).select_proved(n).unwrap_or(len)
 }
 
 /// The first index from `from` on whose value is true, and `len` where there is none, also from past the end. So a walk

@@ -37,9 +37,9 @@ impl Mask {
     #[inline]
     pub(crate) fn bitand_proved(&self, other: &Mask) -> Result<Mask, MaskError> {
         match (self, other) {
-            (_, Mask::AllTrue(_)) => self.try_clone(),
+            (_, Mask::AllTrue(_)) => self.clone(),
             (_, Mask::AllFalse(_)) | (Mask::AllFalse(_), _) => Ok(Mask::new_false(self.len())),
-            (Mask::AllTrue(_), Mask::Values(_)) => other.try_clone(),
+            (Mask::AllTrue(_), Mask::Values(_)) => other.clone(),
             (Mask::Values(a), Mask::Values(b)) => {
                 Mask::from_buffer(a.bit_buffer().bitand_proved(b.bit_buffer())?)
             }
@@ -75,9 +75,9 @@ impl Mask {
     #[inline]
     pub(crate) fn bitor_proved(&self, other: &Mask) -> Result<Mask, MaskError> {
         match (self, other) {
-            (_, Mask::AllFalse(_)) => self.try_clone(),
+            (_, Mask::AllFalse(_)) => self.clone(),
             (_, Mask::AllTrue(_)) | (Mask::AllTrue(_), _) => Ok(Mask::new_true(self.len())),
-            (Mask::AllFalse(_), Mask::Values(_)) => other.try_clone(),
+            (Mask::AllFalse(_), Mask::Values(_)) => other.clone(),
             (Mask::Values(a), Mask::Values(b)) => {
                 Mask::from_buffer(a.bit_buffer().bitor_proved(b.bit_buffer())?)
             }
@@ -136,7 +136,7 @@ impl Mask {
     #[inline]
     pub(crate) fn to_bitand_not_proved(&self, other: &Mask) -> Result<Mask, MaskError> {
         match (self, other) {
-            (_, Mask::AllFalse(_)) => self.try_clone(),
+            (_, Mask::AllFalse(_)) => self.clone(),
             (_, Mask::AllTrue(_)) | (Mask::AllFalse(_), _) => Ok(Mask::new_false(self.len())),
             (Mask::AllTrue(_), Mask::Values(_)) => other.not(),
             (Mask::Values(a), Mask::Values(b)) => {

@@ -116,11 +116,11 @@ impl Mask {
         mask: &Mask,
     ) -> Result<(Mask, Steps), MaskError> {
         match (self, mask) {
-            (_, Mask::AllTrue(_)) => Ok((self.try_clone()?, Steps::new())),
+            (_, Mask::AllTrue(_)) => Ok((self.clone()?, Steps::new())),
             (_, Mask::AllFalse(_)) | (Mask::AllFalse(_), _) => {
                 Ok((Mask::new_false(self.len()), Steps::new()))
             }
-            (Mask::AllTrue(_), Mask::Values(_)) => Ok((mask.try_clone()?, Steps::new())),
+            (Mask::AllTrue(_), Mask::Values(_)) => Ok((mask.clone()?, Steps::new())),
             (Mask::Values(values), Mask::Values(ranks)) => narrow_by_path(values, ranks),
         }
     }
@@ -131,11 +131,11 @@ impl Mask {
         mask: &Mask,
     ) -> Result<(Mask, Steps), MaskError> {
         match (self, mask) {
-            (_, Mask::AllTrue(_)) => Ok((self.try_clone()?, Steps::new())),
+            (_, Mask::AllTrue(_)) => Ok((self.clone()?, Steps::new())),
             (_, Mask::AllFalse(_)) | (Mask::AllFalse(_), _) => {
                 Ok((Mask::new_false(self.len()), Steps::new()))
             }
-            (Mask::AllTrue(_), Mask::Values(_)) => Ok((mask.try_clone()?, Steps::new())),
+            (Mask::AllTrue(_), Mask::Values(_)) => Ok((mask.clone()?, Steps::new())),
             (Mask::Values(values), Mask::Values(ranks)) => {
                 crate::proved::vortex_mask::intersect_by_rank::narrow::narrow_by_path_any(
                     values, ranks,
@@ -184,7 +184,7 @@ impl Mask {
                 return fold_down(self, masks);
             }
         }
-        let mut narrowed = self.try_clone()?;
+        let mut narrowed = self.clone()?;
         for mask in masks {
             narrowed = narrowed.intersect_by_rank_proved(mask)?;
         }

@@ -23,9 +23,9 @@ mod values;
 
 use crate::kit::AllocError;
 use crate::proved::mask_bits::BitBuffer;
+use ::core::fmt;
 pub use all_or::AllOr;
 pub use cached::MaskIter;
-use core::fmt;
 pub use error::MaskError;
 pub use fraction::Fraction;
 pub use from_indices::index_fault;
@@ -59,7 +59,7 @@ impl fmt::Debug for Mask {
         match self {
             Mask::AllTrue(len) => write!(f, "All true({len})"),
             Mask::AllFalse(len) => write!(f, "All false({len})"),
-            Mask::Values(values) => fmt::Debug::fmt(values.as_ref(), f),
+            Mask::Values(values) => values.as_ref().fmt(f),
         }
     }
 }
@@ -127,8 +127,13 @@ impl Mask {
         match self {
             Mask::AllTrue(len) => Ok(Mask::AllTrue(*len)),
             Mask::AllFalse(len) => Ok(Mask::AllFalse(*len)),
-            Mask::Values(values) => Ok(Mask::Values(values.try_clone()?)),
+            Mask::Values(values) => Ok(Mask::Values(values.clone()?)),
         }
+    }
+
+    #[inline(always)]
+    pub(crate) fn clone(&self) -> Result<Mask, MaskError> {
+        self.try_clone()
     }
 
     /// Becomes `AllFalse(0)`. The old values are dropped.

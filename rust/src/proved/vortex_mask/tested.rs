@@ -164,7 +164,7 @@ pub fn intersect_mask_driven<S: SelectBit, I: IntoIterator<Item = usize>>(
     mask_indices: I,
     true_count: usize,
 ) -> Result<(Mask, Steps), MaskError> {
-    let mask_indices = crate::kit::Collect::collected(mask_indices.into_iter())?;
+    let mask_indices = crate::kit::Collect::try_collected(mask_indices.into_iter())?;
     crate::conditions::need_ranks(
         &mask_indices,
         self_buffer.true_count(),

@@ -52,7 +52,7 @@ fn close_up(bits: u8x16, masks: u8x16, place: u8) -> u8x16 {
     let here = u8x16::splat(1 << place);
     // no bit where the place is set, and all from it on where it is clear
     let from_here = (masks & here) - here;
-    bits - ((bits & from_here) >> u8x16::every(1))
+    bits - ((bits & from_here) >> u8x16::splat(1))
 }
 
 // Two to the count of set places: of the lower byte of each pair, and of the upper one.
@@ -65,10 +65,10 @@ struct Powers {
 #[inline(always)]
 fn powers_of(masks: u8x16) -> Powers {
     let lower = u16x8::from_le_bytes(powers_of_nibbles(masks & u8x16::splat(15)));
-    let upper = u16x8::from_le_bytes(powers_of_nibbles(masks >> u8x16::every(4)));
+    let upper = u16x8::from_le_bytes(powers_of_nibbles(masks >> u8x16::splat(4)));
     Powers {
         even: (lower & u16x8::splat(0xFF)) * (upper & u16x8::splat(0xFF)),
-        odd: (lower >> u16x8::every(8)) * (upper >> u16x8::every(8)),
+        odd: (lower >> u16x8::splat(8)) * (upper >> u16x8::splat(8)),
     }
 }
 
@@ -82,7 +82,7 @@ fn powers_of_nibbles(nibbles: u8x16) -> u8x16 {
 #[inline(always)]
 fn join_bytes(bytes: u8x16, powers: u16x8) -> u16x8 {
     let pairs = u16x8::from_le_bytes(bytes);
-    (pairs & u16x8::splat(0xFF)) + (pairs >> u16x8::every(8)) * powers
+    (pairs & u16x8::splat(0xFF)) + (pairs >> u16x8::splat(8)) * powers
 }
 
 // The same of pairs of numbers of 16 bits: the upper one stands at the place of both powers of the lower one's bytes.
@@ -91,7 +91,7 @@ fn join_pairs(pairs: u16x8, even: u16x8, odd: u16x8) -> u32x4 {
     let low = u32x4::splat(0xFFFF);
     let both = wide(pairs);
     let power = (wide(even) & low) * (wide(odd) & low);
-    (both & low) + (both >> u32x4::every(16)) * power
+    (both & low) + (both >> u32x4::splat(16)) * power
 }
 
 // Two neighbors in a lane.

@@ -22,7 +22,7 @@ pub(super) fn begins_by_lists(first: &MaskValues, masks: &[Mask]) -> bool {
 #[inline]
 pub(super) fn fold_down(first: &Mask, masks: &[Mask]) -> Result<Mask, MaskError> {
     let mut i = masks.len() - 1;
-    let mut narrowed = masks[i].try_clone()?;
+    let mut narrowed = masks[i].clone()?;
     while i > 0 {
         i -= 1;
         narrowed = masks[i].intersect_by_rank_proved(&narrowed)?;

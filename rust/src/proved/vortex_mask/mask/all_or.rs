@@ -40,7 +40,7 @@ impl<T> AllOr<T> {
     }
 }
 
-impl<T: crate::kit::TryClone> AllOr<&T> {
+impl<T: TryClone> AllOr<&T> {
     /// Clones the value behind the reference, which its clones have to equal.
     ///
     /// # The caller owes ([terms](crate::definitions))
@@ -57,7 +57,7 @@ impl<T: crate::kit::TryClone> AllOr<&T> {
         match self {
             AllOr::All => Ok(AllOr::All),
             AllOr::None => Ok(AllOr::None),
-            AllOr::Some(value) => Ok(AllOr::Some(value.try_clone()?)),
+            AllOr::Some(value) => Ok(AllOr::Some(value.clone()?)),
         }
     }
 }

@@ -31,6 +31,11 @@ impl Mask {
     /// - *refused*: `IsOkUnless result (MaskError.Memory alloc_error)`
     #[inline]
     pub fn indices(&mut self) -> Result<AllOr<&[usize]>, MaskError> {
+        self.indices_proved()
+    }
+
+    #[inline]
+    pub(crate) fn indices_proved(&mut self) -> Result<AllOr<&[usize]>, MaskError> {
         self.fill(false)?;
         Ok(match self {
             Mask::AllTrue(_) => AllOr::All,

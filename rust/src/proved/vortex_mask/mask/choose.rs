@@ -5,7 +5,7 @@ use crate::kit::prelude::*;
 use crate::proved::mask_bits::push_rows::choose_rows;
 use crate::proved::vortex_mask::mask::{Mask, MaskError};
 
-use core::mem::size_of_val;
+use ::core::mem::size_of_val;
 
 // Rows that lie so many bytes apart on the average go one by one: to read others beside them, from lines of their own,
 // takes longer than a branch that is guessed wrong.

@@ -47,7 +47,7 @@ impl Mask {
             (Mask::AllTrue(_), Mask::Values(values)) => {
                 // some values are true and some are not, as its count tells
                 let _ = values.true_count();
-                of.try_clone()
+                of.clone()
             }
             (Mask::AllFalse(_), Mask::Values(_)) => Ok(Mask::AllFalse(0)),
             (Mask::Values(chosen), Mask::Values(values)) => {

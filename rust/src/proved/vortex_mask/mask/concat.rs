@@ -28,7 +28,7 @@ impl Mask {
     #[inline]
     pub fn concat<'a, I: IntoIterator<Item = &'a Mask>>(masks: I) -> Result<Mask, MaskError> {
         let masks = masks.into_iter();
-        let lent: Vec<&Mask> = masks.collected()?;
+        let lent: Vec<&Mask> = masks.try_collected()?;
         concat_list(&lent)
     }
 
@@ -51,7 +51,7 @@ impl Mask {
     #[inline]
     pub fn from_masks<I: IntoIterator<Item = Mask>>(masks: I) -> Result<Mask, MaskError> {
         let masks = masks.into_iter();
-        let held: Vec<Mask> = masks.collected()?;
+        let held: Vec<Mask> = masks.try_collected()?;
         concat_list(&held)
     }
 }

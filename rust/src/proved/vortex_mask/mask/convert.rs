@@ -129,7 +129,7 @@ impl Mask {
         match self {
             Mask::AllTrue(len) => Ok(BitBuffer::new_set(*len)?),
             Mask::AllFalse(len) => Ok(BitBuffer::new_unset(*len)?),
-            Mask::Values(values) => Ok(values.bit_buffer().try_clone()?),
+            Mask::Values(values) => Ok(values.bit_buffer().clone()?),
         }
     }
 

@@ -25,8 +25,8 @@ pub enum MaskError {
     LengthOverflow,
 }
 
-impl core::fmt::Display for MaskError {
-    fn fmt(&self, f: &mut core::fmt::Formatter<'_>) -> core::fmt::Result {
+impl ::core::fmt::Display for MaskError {
+    fn fmt(&self, f: &mut ::core::fmt::Formatter<'_>) -> ::core::fmt::Result {
         match self {
             MaskError::Memory(..) => f.write_str("out of memory"),
             MaskError::UnsortedIndices { at } => {
@@ -52,7 +52,7 @@ impl core::fmt::Display for MaskError {
     }
 }
 
-impl core::error::Error for MaskError {}
+impl ::core::error::Error for MaskError {}
 
 impl From<AllocError> for MaskError {
     #[inline(always)]

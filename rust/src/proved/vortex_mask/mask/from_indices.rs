@@ -37,7 +37,7 @@ impl Mask {
         indices: I,
     ) -> Result<Mask, MaskError> {
         let indices = indices.into_iter();
-        let indices: Vec<usize> = indices.collected()?;
+        let indices: Vec<usize> = indices.try_collected()?;
         if let Some(fault) = index_fault(len, &indices) {
             return Err(fault);
         }
@@ -200,8 +200,8 @@ impl Mask {
     ) -> Result<Mask, MaskError> {
         let lhs = lhs.into_iter();
         let rhs = rhs.into_iter();
-        let lhs: Vec<usize> = lhs.collected()?;
-        let rhs: Vec<usize> = rhs.collected()?;
+        let lhs: Vec<usize> = lhs.try_collected()?;
+        let rhs: Vec<usize> = rhs.try_collected()?;
         crate::conditions::need_ascending(
             &lhs,
             "`from_intersection_indices` needs each of `lhs` above the one before it: ",

@@ -45,7 +45,7 @@ impl Mask {
     #[inline]
     pub fn to_limited(&self, k: usize) -> Result<Mask, MaskError> {
         if self.true_count() <= k {
-            return self.try_clone();
+            return self.clone();
         }
         self.limit_below_count(k)
     }

@@ -11,7 +11,7 @@ impl MaskValues {
         let buffer = self.bit_buffer();
         match self.cached_indices() {
             Some(indices) => indices[n],
-            None => buffer.select(n).unwrap(),
+            None => buffer.select_proved(n).unwrap(),
         }
     }
 

@@ -45,7 +45,7 @@ impl Mask {
             Mask::Values(values) => {
                 let buffer = values.bit_buffer();
                 if end - start == buffer.len() {
-                    return self.try_clone();
+                    return self.clone();
                 }
                 Mask::from_buffer(buffer.slice_proved(start, end)?)
             }

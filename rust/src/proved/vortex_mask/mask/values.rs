@@ -5,7 +5,7 @@ use crate::kit::AllocError;
 use crate::kit::prelude::*;
 use crate::proved::mask_bits::BitBuffer;
 use crate::proved::vortex_mask::mask::{MaskError, MaskIter};
-use core::fmt;
+use ::core::fmt;
 
 use crate::kit::Arc;
 
@@ -149,7 +149,7 @@ impl MaskValues {
     pub(crate) fn buffer_of(held: MaskValuesRef) -> Result<BitBuffer, AllocError> {
         match Arc::try_unwrap(held) {
             Ok(own) => Ok(own.into_bit_buffer()),
-            Err(shared) => shared.bit_buffer().try_clone(),
+            Err(shared) => shared.bit_buffer().clone(),
         }
     }
 
@@ -162,11 +162,16 @@ impl MaskValues {
     #[inline(always)]
     pub fn try_clone(&self) -> Result<MaskValues, MaskError> {
         Ok(MaskValues {
-            buffer: self.buffer.try_clone()?,
+            buffer: self.buffer.clone()?,
             true_count: self.true_count,
-            indices: self.indices.try_clone()?,
-            slices: self.slices.try_clone()?,
+            indices: self.indices.clone()?,
+            slices: self.slices.clone()?,
         })
+    }
+
+    #[inline(always)]
+    pub(crate) fn clone(&self) -> Result<MaskValues, MaskError> {
+        self.try_clone()
     }
 }
 
@@ -184,6 +189,11 @@ impl MaskValues {
     /// - *refused*: `IsOkUnless result (MaskError.Memory alloc_error)`
     #[inline]
     pub fn indices(&mut self) -> Result<&[usize], MaskError> {
+        self.indices_proved()
+    }
+
+    #[inline]
+    pub(crate) fn indices_proved(&mut self) -> Result<&[usize], MaskError> {
         self.cache_list(false)?;
         Ok(self.cached_indices().unwrap())
     }
@@ -279,7 +289,7 @@ impl MaskValues {
     // A clone with that list cached.
     #[inline(always)]
     pub(super) fn with_list(&self, by_ranges: bool) -> Result<MaskValues, MaskError> {
-        let mut filled = self.try_clone()?;
+        let mut filled = self.clone()?;
         filled.cache_list(by_ranges)?;
         Ok(filled)
     }
@@ -297,7 +307,7 @@ impl MaskValues {
     #[inline]
     fn runs(&self) -> Result<Vec<(usize, usize)>, AllocError> {
         if self.true_count < self.buffer.len() / 32 {
-            let ranges: Vec<_> = self.buffer.set_slices().collected()?;
+            let ranges: Vec<_> = self.buffer.set_slices().try_collected()?;
 
             return Ok(ranges);
         }

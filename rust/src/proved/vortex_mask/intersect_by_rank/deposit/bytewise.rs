@@ -86,10 +86,10 @@ pub(crate) fn counts_below(masks: u64x2) -> u8x16 {
 // Of each word, the sums of all lower bytes, in each byte: of one lower byte, of two, of four and then of all.
 #[inline(always)]
 fn sums_below(words: u64x2) -> u64x2 {
-    let sums = words << u64x2::every(8);
-    let sums = sums + (sums << u64x2::every(8));
-    let sums = sums + (sums << u64x2::every(16));
-    sums + (sums << u64x2::every(32))
+    let sums = words << u64x2::splat(8);
+    let sums = sums + (sums << u64x2::splat(8));
+    let sums = sums + (sums << u64x2::splat(16));
+    sums + (sums << u64x2::splat(32))
 }
 
 // In each lane, the places at which an odd number of zeros have been passed, where the zeros
@@ -98,7 +98,7 @@ fn sums_below(words: u64x2) -> u64x2 {
 fn odd_zeros(zeros: u8x16, stage: u8) -> u8x16 {
     let mut parity = zeros;
     for doubling in stage..3 {
-        parity ^= parity << u8x16::every(1 << doubling);
+        parity ^= parity << u8x16::splat(1 << doubling);
     }
     parity
 }
@@ -114,7 +114,7 @@ struct Stage {
 // keeps every second zero for the stages after this one.
 #[inline(always)]
 fn run_stage(packed: u8x16, zeros: u8x16, stage: u8) -> Stage {
-    let step = u8x16::every(1 << stage);
+    let step = u8x16::splat(1 << stage);
     let odd = odd_zeros(zeros, stage);
     let moving = packed & odd;
     let landed = moving >> step;
@@ -156,7 +156,7 @@ pub(super) fn neighbors(words: u64x2, below: u8x16) -> TwoBytes {
     let bytes = bytes_of(words);
     // the second word's bytes are the lanes from 8 on
     let base = u8x16::from_array([0, 0, 0, 0, 0, 0, 0, 0, 8, 8, 8, 8, 8, 8, 8, 8]);
-    let at = base + (below >> u8x16::every(3));
+    let at = base + (below >> u8x16::splat(3));
     let next = (at + u8x16::splat(1)) & u8x16::splat(15);
     TwoBytes { low: bytes.swizzle_dyn(at), high: bytes.swizzle_dyn(next) }
 }
@@ -168,12 +168,12 @@ pub(super) fn neighbors(words: u64x2, below: u8x16) -> TwoBytes {
 fn eight_bits(low: u8x16, high: u8x16, from: u8x16) -> u8x16 {
     let powers = u8x16::from_array([128, 64, 32, 16, 8, 4, 2, 1, 128, 64, 32, 16, 8, 4, 2, 1]);
     let power = powers.swizzle_dyn(from & u8x16::splat(7)).cast::<u16>();
-    let both = low.cast::<u16>() + (high.cast::<u16>() << u16x16::every(8));
-    (((both * power) >> u16x16::every(7)) & u16x16::splat(0xFF)).cast::<u8>()
+    let both = low.cast::<u16>() + (high.cast::<u16>() << u16x16::splat(8));
+    (((both * power) >> u16x16::splat(7)) & u16x16::splat(0xFF)).cast::<u8>()
 }
 
 // Moves the bits at `landed` back up by `2 ^ stage`.
 #[inline(always)]
 fn move_up(lanes: u8x16, landed: u8x16, stage: u8) -> u8x16 {
-    (lanes & !landed) | ((lanes & landed) << u8x16::every(1 << stage))
+    (lanes & !landed) | ((lanes & landed) << u8x16::splat(1 << stage))
 }

@@ -38,7 +38,7 @@ struct TwoNibbles {
 
 #[inline(always)]
 fn nibbles_of(bytes: u8x16) -> TwoNibbles {
-    TwoNibbles { lower: bytes & u8x16::splat(15), upper: bytes >> u8x16::every(4) }
+    TwoNibbles { lower: bytes & u8x16::splat(15), upper: bytes >> u8x16::splat(4) }
 }
 
 // In each lane, of the number whose two bytes are `low` and `high`, four bits from that lane of
@@ -51,17 +51,17 @@ fn four_and_four(low: u8x16, high: u8x16, from: u8x16, lower: u8x16) -> u8x16 {
     let gaps = u8x16::from_array([16, 8, 8, 4, 8, 4, 4, 2, 8, 4, 4, 2, 4, 2, 2, 1]);
     let gap = gaps.swizzle_dyn(lower).cast::<u16>();
     // the first bit wanted moves up to bit 7, and by the gap to bit 11
-    let near = (low.cast::<u16>() + (high.cast::<u16>() << u16x16::every(8))) * power;
+    let near = (low.cast::<u16>() + (high.cast::<u16>() << u16x16::splat(8))) * power;
     let far = near * gap;
     let both = (near & u16x16::splat(0x0780)) + (far & u16x16::splat(0x7800));
-    (both >> u16x16::every(7)).cast::<u8>()
+    (both >> u16x16::splat(7)).cast::<u8>()
 }
 
 // In each nibble, its bits at the mask's places.
 #[inline(always)]
 fn move_up_in_nibbles(bits: u8x16, masks: TwoNibbles) -> u8x16 {
     let moves = moves_of(masks);
-    let bits = (bits & moves.stay) | ((bits & moves.by_two) << u8x16::every(2));
+    let bits = (bits & moves.stay) | ((bits & moves.by_two) << u8x16::splat(2));
     bits + (bits & moves.by_one)
 }
 
@@ -89,5 +89,5 @@ fn moves_of(masks: TwoNibbles) -> Moves {
 #[inline(always)]
 fn of_nibbles(table: [u8; 16], masks: TwoNibbles) -> u8x16 {
     let table = u8x16::from_array(table);
-    table.swizzle_dyn(masks.lower) + (table << u8x16::every(4)).swizzle_dyn(masks.upper)
+    table.swizzle_dyn(masks.lower) + (table << u8x16::splat(4)).swizzle_dyn(masks.upper)
 }
