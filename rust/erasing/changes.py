@@ -87,7 +87,7 @@ RULES = [
     ("modules", r"(?<![\w:])std::mem::", "::core::mem::"),
     ("`fmt`", r"fn fmt<W: fmt::Write>\(&self, f: &mut fmt::Formatter<W>\)", "fn fmt(&self, f: &mut fmt::Formatter<'_>)"),
     ("the program's handle", r"\b(e?println)!\(rt;\s*", r"crate::host::\1!(rt; "),
-    (QUICKEST, r"\b([\w:]+)::<Portable(, _)?>\(([^()]*)\)", r"crate::native::quickest!(\1::<Portable\2>(\3))"),
+    (QUICKEST, r"\b([\w:]+)::<Portable((?:, _)*)>\(([^()]*)\)", r"crate::native::quickest!(\1::<Portable\2>(\3))"),
     (QUICKEST, r"\bPortable::(deposit_bits)\(([^()]*)\)", r"crate::native::quickest!(Portable::\1(\2))"),
     (CLOSURES, r"\bF: Fn(\(&T\) -> bool>\([^()]*\btest: &)F\b", r"F: FnMut\1mut F"),
     (CLOSURES, r"(\bput_answers\([^()]*), &test\)", r"\1, &mut { test })"),

@@ -6,7 +6,7 @@ import re
 from erasing import marks
 from erasing.changes import CORE, ELSEWHERE, GONE, INSIDE, LAWFUL, PLACES, PROVED, REPLACED, SAME
 from erasing.conditions import TESTS, Condition
-from erasing.levels import between, by_pext, levelled
+from erasing.levels import by_pext, levelled
 from erasing.names import Names
 from erasing.tokens import Fault, attached, leaves, spaced
 
@@ -403,9 +403,6 @@ impl ::core::error::Error for {name} {{}}
         if marked.has("copied by PEXT"):
             self.count("copies by an instruction")
             levels = by_pext(function, body, is_levelled)
-        if marked.has("copied for each level"):
-            self.count("copies between levels")
-            levels = between(function, body)
         if is_levelled:
             self.count("levels of the processor")
             body, more = levelled(function, of, body, marked)

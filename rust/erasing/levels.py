@@ -53,15 +53,6 @@ def inner(body):
     return body
 
 
-def between(function, body):
-    """A copy of a function that stays on the level of what calls it."""
-    return f"""
-
-#[inline(always)]
-{function.signature(f"{function.name}_any", "pub(crate) ")} {inner(body)}
-"""
-
-
 def by_pext(function, body, is_levelled):
     """A copy of a function that takes bits by the instruction."""
     for pattern, into in PEXT:

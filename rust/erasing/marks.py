@@ -8,7 +8,6 @@
 | `.. if CONDITION` | the copy is called only where there is so much to do that it pays to ask |
 | `.. alone` | what it calls isn't inlined always |
 | `// rust: called at its level` | a levelled function goes on to the copy of its own level |
-| `// rust: copied for each level` | a copy that stays on the level of what calls it |
 | `// rust: copied by PEXT` | a copy in which that instruction stands in the place of `extract` |
 | `// rust: visible` | private functions and modules that calls by hand go to |
 | `// rust: inline` | inlined always: tests of places make it seem too long for that |
@@ -29,7 +28,7 @@ LINE = re.compile(r"^[ \t]*// rust:(.*)\n", re.M)
 LEVEL = re.compile(r"(wide |shifted )?level(?: if (.+?))?( alone)?")
 TOLD = re.compile(r"(?:(\w+) )?(needs|says) (\S.*)")
 NAMED = re.compile(r"named (\w+)")
-OTHERS = ["called at its level", "copied for each level", "copied by PEXT", "visible", "inline", "by hand"]
+OTHERS = ["called at its level", "copied by PEXT", "visible", "inline", "by hand"]
 HEAD = re.compile(r"^([ \t]*)(?:pub(?:\(\w+\))? )?(?:unsafe )?(?:extern \"C\" )?(fn|mod) (\w+)", re.M)
 
 

@@ -57,7 +57,7 @@ SAME = [
     (r"vec ! \[ ([^;\]]*) ; ([^\]]*) \]", r"filled ( \1 \2 )"),
     (r"fn fmt < W : fmt :: Write > \( & self f : & mut fmt :: Formatter < W > \)",
      "fn fmt ( & self f : & mut fmt :: Formatter < '_ > )"),
-    (r"quickest ! \( ((?:\w+ :: )*(?:< Portable (?:_ )?>|deposit_bits) \( [^()]* \)) \)", r"\1"),
+    (r"quickest ! \( ((?:\w+ :: )*(?:< Portable (?:_ )*>|deposit_bits) \( [^()]* \)) \)", r"\1"),
     (r"FnMut \( & T \) -> bool", "Fn ( & T ) -> bool"),
     (r"test : & mut F", "test : & F"),
     (r"& mut \{ test \}", "& test"),
@@ -211,8 +211,7 @@ def without_levels(words, name):
 
 
 def without_copies(words, name):
-    """What was made, without the copies by an instruction and those between levels, each of which has just the words of
-    what it is a copy of.
+    """What was made, without the copies by an instruction, each of which has just the words of what it is a copy of.
 
     >>> made = "fn f(a: u8) { g(a) } #[cfg(target_arch = 1)] #[inline(always)] fn f_by_pext(a: u8) { "
     >>> " ".join(without_copies(tokens(made + "crate::native::g(a) }"), "a.rt"))
@@ -220,17 +219,11 @@ def without_copies(words, name):
     >>> without_copies(tokens(made + "h(a) }"), "a.rt")
     Traceback (most recent call last):
     erasing.tokens.Fault: a.rt: f_by_pext is no copy
-    >>> made = "fn f(a: u8) { go_on(a) } #[inline(always)] pub(crate) fn f_any(a: u8) { go_on_any(a"
-    >>> " ".join(without_copies(tokens(made + ") }"), "a.rt"))
-    'fn f ( a : u8 ) { go_on ( a ) }'
-    >>> without_copies(tokens(made + " + 1) }"), "a.rt")
-    Traceback (most recent call last):
-    erasing.tokens.Fault: a.rt: f_any is no copy
     """
     text = " ".join(words)
     by_pext = r"# \[ cfg \( [^]]* \) \] # \[ (?:target_feature|inline) [^]]* \] (?=fn \w+_by_pext )"
-    copy = rf" (?:{by_pext}|# \[ inline \( always \) \] pub \( crate \) (?=fn \w+_any ))(fn [^{{]*\{{)"
-    places = r"crate :: (?:native|proved :: [\w :]+?) :: (?=\w+ (?:\(|:: <))|_by_pext|_any|_proved"
+    copy = rf" {by_pext}(fn [^{{]*\{{)"
+    places = r"crate :: native :: (?=\w+ (?:\(|:: <))|_by_pext|_proved"
     while found := re.search(copy, text):
         begin = len(text[: found.start(1)].split())
         last = behind(text.split(), begin + found[1].split().index("{"))

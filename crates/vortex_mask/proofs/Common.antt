@@ -62,7 +62,7 @@ pub use Rattle.std.specs.Iterator.{Drains, DrainsIf, Yields}
 pub use Rattle.std.specs.Iterator.Runs.{EachRunFrom, Run, WholeRun}
 pub use Rattle.std.specs.List.{All, copy_within, position, prefix_len}
 pub use Rattle.std.specs.List.Retain.{DedupsAll, DedupsFrom, IsDeduped}
-pub use Rattle.std.specs.Option.{SomeIff, option_map, option_or}
+pub use Rattle.std.specs.Option.{IfSome, SomeIff, option_map, option_or}
 pub use Rattle.std.specs.Rc.{rc_with_value}
 pub use Rattle.std.specs.Result.{IfErr, IfOk, OnErr}
 pub use Rattle.vortex_mask.specs.AllOr.{IsListOf}

@@ -5,4 +5,5 @@ pub mod PathLemmas
 pub mod RankBlockLemmas
 pub mod RankRunLemmas
 pub mod RankWordLemmas
+pub mod StepLemmas
 pub mod WordKernelLemmas

@@ -1,5 +1,5 @@
 -- By which kernel two masks of mixed values are narrowed, how the result is held, what it caches, and the steps that are taken.
-use Rattle.std.specs.Prelude.{ℕ, ◌≡◌, ◌≤◌, ◌*◌, Bool, true, false, ◌&&◌, List, length, nat_lt, is_some, if◌then◌else◌}
+use Rattle.std.specs.Prelude.{ℕ, ◌≡◌, ◌≤◌, ◌*◌, Bool, true, false, ◌&&◌, Option, IfSome, List, length, nat_lt, is_some, if◌then◌else◌}
 use Rattle.mask_bits.specs.Buffer.{values}
 use Rattle.mask_bits.specs.Positions.{positions, count, rank_intersection}
 use Rattle.mask_bits.specs.Words.{started_words}
@@ -59,9 +59,9 @@ abbrev pub AreNarrowingSteps : Mask → Mask → Mask → StepCounts → Type 0
 AreNarrowingSteps (Values v) (Values w) m s = AreStepsOf (path_of v.value w.value) (values v.value.buffer) (values w.value.buffer) (truth m) s
 AreNarrowingSteps a b m s = s ≡ no_steps
 
--- m is v narrowed by w on a path: their rank intersection as it is held where some list is not empty, with what the path caches, by its steps s
-pub record IsNarrowedOn (path : RankPath) (v w : Contents) (m : Mask) (s : StepCounts) : Type 0 where
+-- m is v narrowed by w on a path: their rank intersection as it is held where some list is not empty, with what the path caches, by its steps where they are counted
+pub record IsNarrowedOn (path : RankPath) (v w : Contents) (m : Mask) (steps : Option StepCounts) : Type 0 where
   pub list : truth m ≡ rank_intersection (values v.buffer) (values w.buffer)
   pub variant : variant m ≡ fitting_variant all_false (truth m)
   pub caches : caches m ≡ where_mixed m (path_caches path (truth m))
-  pub steps : AreStepsOf path (values v.buffer) (values w.buffer) (truth m) s
+  pub taken : IfSome steps (AreStepsOf path (values v.buffer) (values w.buffer) (truth m))

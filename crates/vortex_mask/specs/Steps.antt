@@ -1,5 +1,5 @@
 -- What a contract sees of `Steps`.
-use Rattle.std.specs.Prelude.{ℕ, ◌≡◌, ◌<◌, ◌≤◌, ◌*◌, ◌%◌, Bool, false, List, length, slice_index_or}
+use Rattle.std.specs.Prelude.{ℕ, ◌≡◌, ◌<◌, ◌≤◌, ◌*◌, ◌%◌, Bool, false, Option, IfSome, List, length, slice_index_or}
 use Rattle.std.specs.List.{sum_by}
 use Rattle.mask_bits.specs.Buffer.{backing_bit}
 use Rattle.mask_bits.specs.Positions.{count, count_below}
@@ -32,8 +32,8 @@ pub record SumsFit (deposits selections offered placed spots : ℕ) : Type 0 whe
   pub placed_fits : placed ≤ 64 * deposits
   pub spots_fit : spots ≤ 64 * selections
 
--- the first i words of a mask a took their deposits: the next rank bit, the bits of r that are written, and the steps
-pub record IsDeposited (a r : List Bool) (i at : ℕ) (out : List ℕ) (steps : StepCounts) : Type 0 where
+-- the first i words of a mask a took their deposits: the next rank bit, the bits of r that are written, and the steps where they are counted
+pub record IsDeposited (a r : List Bool) (i at : ℕ) (out : List ℕ) (steps : Option StepCounts) : Type 0 where
   pub place : at ≡ count_below a (64 * i)
   pub written : (p : ℕ) → p < 64 * i → backing_bit out p ≡ slice_index_or r p false
-  pub counted : steps ≡ record { deposits = i; words = i; selections = 0; offered = count_below a (64 * i); placed = count_below r (64 * i); spots = 0 }
+  pub counted : IfSome steps (λ s. s ≡ record { deposits = i; words = i; selections = 0; offered = count_below a (64 * i); placed = count_below r (64 * i); spots = 0 })

@@ -1,5 +1,6 @@
 //! Rank intersection: a mask narrowed by a mask over its true values.
 
+mod count_steps;
 mod deposit;
 mod extract;
 // rust: visible
@@ -11,7 +12,7 @@ mod select;
 mod stack;
 mod steps;
 
-ghost use Rattle.std.specs.Prelude.{◌≡◌, ◌≢◌, ◌<◌, ◌⊎◌, ◌∷◌, [], IsOk, IfOk, All, fold, map, length, IsOkUnless, alloc_error};
+ghost use Rattle.std.specs.Prelude.{◌≡◌, ◌≢◌, ◌<◌, ◌⊎◌, ◌∷◌, [], IsOk, IfOk, IfSome, All, fold, map, length, IsOkUnless, alloc_error};
 ghost use Rattle.vortex_mask.specs.Caches.{caches};
 ghost use Rattle.vortex_mask.specs.Mask.{truth, variant, fitting_variant, variant_and, all_false, mixed};
 ghost use Rattle.mask_bits.specs.Positions.{positions, count, at_indices, rank_intersection};
@@ -20,6 +21,7 @@ ghost use Rattle.vortex_mask.specs.Path.{narrowed_caches, AreNarrowingSteps};
 
 use crate::laws;
 use crate::mask::{Mask, MaskError};
+use count_steps::{CountSteps, Uncounted};
 pub use deposit::{
     DepositBits, Portable, PortableLoop, deposit_bytewise, deposit_two_holes, deposit_two_lowest,
     deposits_by_loop,
@@ -63,15 +65,13 @@ impl Mask {
             → IsOk result }
         ensures refused { IsOkUnless result (MaskError.Memory alloc_error) }
     {
-        Ok(self.intersect_by_rank_counted(alloc, mask)?.0)
+        Ok(self.intersect_by_rank_with::<Uncounted>(alloc, mask)?.0)
     }
 
     /// The mask of `intersect_by_rank`, with the steps that its kernel takes. No step is counted
     /// where no kernel runs: where a side is all true or all false.
-    // rust: called at its level
-    // rust: copied for each level
+    // rust: level alone
     // rust: needs a rank mask as long as the mask's count of true values
-    #[tactic(auto, using(crate::proofs::Masks::MaskLemmas::variant_facts, crate::proofs::Masks::MaskLemmas::narrowing_facts))]
     pub fn intersect_by_rank_counted(
         &self,
         alloc: Global,
@@ -95,17 +95,45 @@ impl Mask {
             → IsOk result }
         ensures refused { IsOkUnless result (MaskError.Memory alloc_error) }
     {
+        self.intersect_by_rank_with::<Steps>(alloc, mask)
+    }
+
+    // The mask of `intersect_by_rank`, with the steps that its kernel takes where `C` counts them.
+    // rust: inline
+    #[tactic(auto, using(crate::proofs::Masks::MaskLemmas::variant_facts, crate::proofs::Masks::MaskLemmas::narrowing_facts))]
+    fn intersect_by_rank_with<C: CountSteps>(
+        &self,
+        alloc: Global,
+        mask: &Mask,
+    ) -> Result<(Mask, C), MaskError>
+        requires { length (truth mask.now) ≡ count (truth self.now) }
+        ensures len { IfOk result (λ r. length (truth r.0) ≡ length (truth self.now)) }
+        ensures true_indices { IfOk result (λ r. positions (truth r.0)
+            ≡ at_indices (positions (truth self.now)) (positions (truth mask.now))) }
+        ensures list { IfOk result
+            (λ r. truth r.0 ≡ rank_intersection (truth self.now) (truth mask.now)) }
+        ensures variant { IfOk result (λ r. variant r.0
+            ≡ fitting_variant (variant_and (variant self.now) (variant mask.now)) (truth r.0)) }
+        ensures caches { IfOk result
+            (λ r. caches r.0 ≡ narrowed_caches self.now mask.now r.0) }
+        ensures steps { IfOk result
+            (λ r. IfSome (C.step_counts r.1) (AreNarrowingSteps self.now mask.now r.0)) }
+        ensures uniform { variant self.now ≢ mixed → variant mask.now ≢ mixed → IsOk result }
+        ensures none { (variant self.now ≡ all_false) ⊎ (variant mask.now ≡ all_false)
+            → IsOk result }
+        ensures refused { IsOkUnless result (MaskError.Memory alloc_error) }
+    {
         match (self, mask) {
             (_, Mask::AllTrue(_)) => {
                 laws::one_variant(self);
-                Ok((self.clone()?, Steps::new()))
+                Ok((self.clone()?, C::none()))
             }
             (_, Mask::AllFalse(_)) | (Mask::AllFalse(_), _) => {
-                Ok((Mask::new_false(self.len()), Steps::new()))
+                Ok((Mask::new_false(self.len()), C::none()))
             }
             (Mask::AllTrue(_), Mask::Values(_)) => {
                 laws::one_variant(mask);
-                Ok((mask.clone()?, Steps::new()))
+                Ok((mask.clone()?, C::none()))
             }
             (Mask::Values(values), Mask::Values(ranks)) => narrow_by_path(alloc, values, ranks),
         }

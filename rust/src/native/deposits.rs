@@ -26,6 +26,12 @@ macro_rules! quickest {
             $($call::)+<Portable, _>($($argument),*)
         )
     };
+    ($($call:ident::)+<Portable, _, _>($($argument:expr),* $(,)?)) => {
+        crate::native::quickest!(
+            $($call::)+<crate::native::Bmi2, _, _>($($argument),*),
+            $($call::)+<Portable, _, _>($($argument),*)
+        )
+    };
     ($by_pdep:expr, $as_it_is:expr) => {{
         #[cfg(target_arch = "x86_64")]
         let result = if crate::native::has_quick_bits() { $by_pdep } else { $as_it_is };

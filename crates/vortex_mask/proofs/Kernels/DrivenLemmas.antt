@@ -1,6 +1,7 @@
 -- The kernel that goes by ranks: words that are read in turn, the indices found in them, and the run of calls that gave the ranks.
-use Rattle.vortex_mask.proofs.Common.{Option, Some, None, common_steps, ◌≡◌, ℕ, ◌+◌, ◌-◌, ◌*◌, ◌/◌, ◌^◌, ◌<◌, ◌≤◌, ◌%◌, Bool, List, [], ◌∷◌, ◌++◌, length, take, get_or, sym, subst, ap, ap₂, ◌∙◌, arith, count_ones, slice_get, get_or-append_seam, run_of_turn, run_of_exit, take_all, map-append, length-append, get_or_append_left, sum_by_push, slice_get-get_or, get_or_from_slice_get, Yields, EachRunFrom, WholeRun, sum_by, IsStrictlyIncreasing, positions, count, at_indices, word_bits, word_part, padded_part, padded_remainder, selected, AreRanks, HasRead, StepCounts, positions-ascending, positions-within, All-at_indices, count-word_more, place_in_word, count-word_bits, All}
+use Rattle.vortex_mask.proofs.Common.{Option, Some, None, common_steps, ◌≡◌, ℕ, ◌+◌, ◌-◌, ◌*◌, ◌/◌, ◌^◌, ◌<◌, ◌≤◌, ◌%◌, Bool, List, [], ◌∷◌, ◌++◌, length, take, get_or, refl, sym, subst, ap, ap₂, ◌∙◌, arith, count_ones, slice_get, get_or-append_seam, run_of_turn, run_of_exit, take_all, map-append, length-append, get_or_append_left, sum_by_push, slice_get-get_or, get_or_from_slice_get, Yields, EachRunFrom, WholeRun, sum_by, IsStrictlyIncreasing, positions, count, at_indices, word_bits, word_part, padded_part, padded_remainder, selected, AreRanks, HasRead, StepCounts, option_map, IfSome, positions-ascending, positions-within, All-at_indices, count-word_more, place_in_word, count-word_bits, All}
 use Rattle.vortex_mask.proofs.Lists.PlaceListLemmas.{at_indices-ascending}
+use Rattle.vortex_mask.proofs.Kernels.StepLemmas.{counted-next}
 use Rattle.vortex_mask.proofs.Kernels.WordKernelLemmas.{word-started}
 
 -- where a true value stands past the words read, there is a further word
@@ -32,12 +33,21 @@ pub not-above-next : (xs : List ℕ) (x n : ℕ) → IsStrictlyIncreasing (xs ++
 not-above-next [] x n ascending h = omega (arith, h)
 not-above-next (y ∷ ys) x n ascending h = grind (arith, ascending (length ys), length-append, get_or_append_left (y ∷ ys) (x ∷ []) 0 (length ys), get_or-append_seam (y ∷ ys) x [] 0)
 
--- the words read, the indices found for the ranks so far, and the steps
-pub record AreFound (m : List Bool) (ranks : List ℕ) (words word before : ℕ) (indices : List ℕ) (steps : StepCounts) : Type 0 where
+-- the words read, the indices found for the ranks so far, and the steps where they are counted
+pub record AreFound (m : List Bool) (ranks : List ℕ) (words word before : ℕ) (indices : List ℕ) (steps : Option StepCounts) : Type 0 where
   pub read : HasRead m words word before
   pub reached : before ≤ get_or ranks (length ranks - 1) 0
   pub found : indices ≡ at_indices (positions m) ranks
-  pub counted : steps ≡ record { deposits = 0; words = words; selections = length ranks; offered = 0; placed = 0; spots = sum_by (λ p. p % 64) indices }
+  pub counted : IfSome steps (λ s. s ≡ record { deposits = 0; words = words; selections = length ranks; offered = 0; placed = 0; spots = sum_by (λ p. p % 64) indices })
+
+-- the words that are counted, and room for a selection
+pub words-counted : {m : List Bool} {ranks : List ℕ} {words word before : ℕ} {indices : List ℕ} (steps : Option StepCounts) → AreFound m ranks words word before indices steps → IfSome steps (λ s. s.words ≡ words)
+words-counted None found = tt
+words-counted (Some s) found = ap (λ (t : StepCounts). t.words) found.counted
+
+pub selection-room : {m : List Bool} {ranks : List ℕ} {words word before : ℕ} {indices : List ℕ} (steps : Option StepCounts) (n : ℕ) → AreFound m ranks words word before indices steps → length ranks < n → IfSome steps (λ s. s.selections < n)
+selection-room None n found h = tt
+selection-room (Some s) n found h = omega (arith, ap (λ (t : StepCounts). t.selections) found.counted)
 
 module _ {S : Type 0} (steps : S → Option ℕ → S → Type 0) (s : S) (top n : ℕ) (ranks : EachRunFrom steps s (AreRanks top n)) (it : S) (same : it ≡ s) (xs : List ℕ) (t : S) (ran : Yields steps it xs t) where
   -- the ranks so far, and the next one
@@ -51,7 +61,7 @@ module _ {S : Type 0} (steps : S → Option ℕ → S → Type 0) (s : S) (top n
       ((k.0, k.1, k.2, k.3.0), sym k.3.1 ∙ (ranks k.0 k.0.seen k.1).2 k.2)
 
   -- and their indices
-  pub found-all : (u : S) → steps t None u → (a m : List Bool) (words word before : ℕ) (indices : List ℕ) (counts : StepCounts) → AreFound a xs words word before indices counts → a ≡ m
+  pub found-all : (u : S) → steps t None u → (a m : List Bool) (words word before : ℕ) (indices : List ℕ) (counts : Option StepCounts) → AreFound a xs words word before indices counts → a ≡ m
       → WholeRun steps s (λ p. indices ≡ at_indices (positions m) p.items)
   found-all u step a m words word before indices counts found same_list =
       let run = (ranks-at_exit u step).0 in
@@ -59,9 +69,9 @@ module _ {S : Type 0} (steps : S → Option ℕ → S → Type 0) (s : S) (top n
 
 -- ---- the indices found
 
-pub found-more : (m : List Bool) (ranks : List ℕ) (x words word before more next passed : ℕ) (indices new : List ℕ) (p : ℕ) (steps ticked : StepCounts)
+pub found-more : (m : List Bool) (ranks : List ℕ) (x words word before more next passed : ℕ) (indices new : List ℕ) (p : ℕ) (steps ticked : Option StepCounts)
     → AreFound m ranks words word before indices steps → slice_get (positions m) x ≡ Some p → HasRead m more next passed → passed ≤ x
-    → new ≡ indices ++ p ∷ [] → ticked ≡ record steps { words = more; selections = steps.selections + 1; spots = steps.spots + p % 64 }
+    → new ≡ indices ++ p ∷ [] → ticked ≡ option_map (λ (s : StepCounts). record s { words = more; selections = s.selections + 1; spots = s.spots + p % 64 }) steps
     → AreFound m (ranks ++ x ∷ []) more next passed new ticked
 found-more m ranks x words word before more next passed indices new p steps ticked so_far place read reached pushed counted =
     let all : List ℕ = ranks ++ x ∷ [] in
@@ -75,7 +85,7 @@ found-more m ranks x words word before more next passed indices new p steps tick
       reached = omega (arith, reached, ap (λ k. get_or all k 0) last, get_or-append_seam ranks x [] 0);
       found = pushed ∙ ap₂ (λ (ps : List ℕ) q. ps ++ q ∷ []) so_far.found (sym (get_or_from_slice_get (positions m) x p 0 place))
           ∙ sym (map-append (λ k. get_or (positions m) k 0) ranks (x ∷ []));
-      counted = rw (counted, so_far.counted, longer, spots);
+      counted = counted-next (λ (s : StepCounts). record s { words = more; selections = s.selections + 1; spots = s.spots + p % 64 }) steps ticked _ _ counted so_far.counted (rw (longer, spots) refl);
     }
 
 -- the indices of all ranks ascend within the list

@@ -1,7 +1,8 @@
 -- A rank intersection word by word: each started word of the mask takes a deposit of rank bits.
-use Rattle.vortex_mask.proofs.Common.{common_steps, ◌≡◌, ℕ, ◌+◌, ◌*◌, ◌-◌, ◌/◌, ◌<◌, ◌≤◌, ◌⊎◌, Bool, false, List, length, get_or, take, drop, sym, ap, subst, ◌∙◌, inl, inr, arith, take-add, cases_lt, ext_get_or, take_all, get_or-map-range_with_len, length-map-range_with_len, Packed, backing_bit, values, at_indices, count, count_below, positions, rank_intersection, true_at, word_bits, word_part, window, padded_part, padded_remainder, started_words, IsStrictlyIncreasing, Deposits, AreBitsFrom, first_bits, is_listed, narrowed_by, IsDeposited, StepCounts, word_steps, length-bitmap, get_or-bitmap, count-append, get_or-window, value_of_true_at, length-true_at, length-rank_intersection, rank_intersection_value, get_or-padded_part, padded_part_from_values, padded_part-whole, padded_part-remainder, count-trues, count-word_more, length-word_bits, All}
+use Rattle.vortex_mask.proofs.Common.{common_steps, ◌≡◌, ℕ, ◌+◌, ◌*◌, ◌-◌, ◌/◌, ◌<◌, ◌≤◌, ◌⊎◌, Bool, false, Option, None, Some, option_map, IfSome, List, length, get_or, take, drop, refl, sym, ap, subst, ◌∙◌, inl, inr, arith, take-add, cases_lt, ext_get_or, take_all, get_or-map-range_with_len, length-map-range_with_len, Packed, backing_bit, values, at_indices, count, count_below, positions, rank_intersection, true_at, word_bits, word_part, window, padded_part, padded_remainder, started_words, IsStrictlyIncreasing, Deposits, AreBitsFrom, first_bits, is_listed, narrowed_by, IsDeposited, StepCounts, word_steps, length-bitmap, get_or-bitmap, count-append, get_or-window, value_of_true_at, length-true_at, length-rank_intersection, rank_intersection_value, get_or-padded_part, padded_part_from_values, padded_part-whole, padded_part-remainder, count-trues, count-word_more, length-word_bits, All}
 use Rattle.vortex_mask.proofs.Lists.PlaceListLemmas.{narrowed_at}
 use Rattle.vortex_mask.proofs.Lists.StartedWordLemmas.{IsAt, list-from_bits, part-same, place-after_within, place-next, places-same}
+use Rattle.vortex_mask.proofs.Kernels.StepLemmas.{counted-as, counted-next}
 use Rattle.vortex_mask.proofs.Kernels.DepositListLemmas.{deposited-value, and_where, trues-take}
 
 -- ---- one word
@@ -75,14 +76,46 @@ all_below m = ap count (take_all (64 * started_words (length m)) m (omega arith)
 abbrev pub one_more : StepCounts → ℕ → ℕ → StepCounts
 one_more s ones w = record s { deposits = s.deposits + 1; words = s.words + 1; offered = s.offered + ones; placed = s.placed + count (word_bits w) }
 
--- and of two, as they are counted at once
-pub two_more : (before : StepCounts) (ones w ones₂ w₂ : ℕ) {read after : StepCounts} → read ≡ record before { words = before.words + 2 }
-    → after ≡ record read { deposits = read.deposits + 2; offered = read.offered + ones + ones₂; placed = read.placed + count (word_bits w) + count (word_bits w₂) }
-    → one_more (one_more before ones w) ones₂ w₂ ≡ after
-two_more before ones w ones₂ w₂ read_two deposited = grind (arith, common_steps)
+two_more : (s : StepCounts) (ones w ones₂ w₂ : ℕ) → one_more (one_more s ones w) ones₂ w₂
+    ≡ record s { deposits = s.deposits + 2; words = s.words + 2; offered = s.offered + ones + ones₂; placed = s.placed + count (word_bits w) + count (word_bits w₂) }
+two_more s ones w ones₂ w₂ = grind (arith, common_steps)
 
-pub deposited-at : {a r : List Bool} {i j at to : ℕ} {out : List ℕ} {s t : StepCounts} → i ≡ j → at ≡ to → s ≡ t → IsDeposited a r i at out s → IsDeposited a r j to out t
+-- as a read and a deposit count them
+pub one_counted : (before : Option StepCounts) (ones w : ℕ) {read after : Option StepCounts} → read ≡ option_map (λ (s : StepCounts). record s { words = s.words + 1 }) before
+    → after ≡ option_map (λ (s : StepCounts). record s { deposits = s.deposits + 1; offered = s.offered + ones; placed = s.placed + count (word_bits w) }) read
+    → after ≡ option_map (λ (s : StepCounts). one_more s ones w) before
+one_counted None ones w read deposited = rw (deposited, read) refl
+one_counted (Some s) ones w read deposited = rw (deposited, read) refl
+
+-- and of two, as they are counted at once
+pub two_counted : (before : Option StepCounts) (ones w ones₂ w₂ : ℕ) {read after : Option StepCounts} → read ≡ option_map (λ (s : StepCounts). record s { words = s.words + 2 }) before
+    → after ≡ option_map (λ (s : StepCounts). record s { deposits = s.deposits + 2; offered = s.offered + ones + ones₂; placed = s.placed + count (word_bits w) + count (word_bits w₂) }) read
+    → option_map (λ (s : StepCounts). one_more s ones₂ w₂) (option_map (λ (s : StepCounts). one_more s ones w) before) ≡ after
+two_counted None ones w ones₂ w₂ read deposited = rw (deposited, read) refl
+two_counted (Some s) ones w ones₂ w₂ read deposited = rw (deposited, read) (ap Some (two_more s ones w ones₂ w₂))
+
+pub deposited-at : {a r : List Bool} {i j at to : ℕ} {out : List ℕ} {s t : Option StepCounts} → i ≡ j → at ≡ to → s ≡ t → IsDeposited a r i at out s → IsDeposited a r j to out t
 deposited-at {a} {r} {i} {j} {at} {to} {out} {s} {t} e f h is = subst (λ n. IsDeposited a r n to out t) e (subst (λ n. IsDeposited a r i n out t) f (subst (IsDeposited a r i at out) h is))
+
+-- there is room for two words more, and for their deposits
+pub two-words-room : {a r : List Bool} {i at : ℕ} {out : List ℕ} (steps : Option StepCounts) (n : ℕ) → IsDeposited a r i at out steps → i + 1 < n → IfSome steps (λ s. s.words + 1 < n)
+two-words-room None n is h = tt
+two-words-room (Some s) n is h = omega (arith, ap (λ (t : StepCounts). t.words) is.counted)
+
+pub two-deposits-room : {a r : List Bool} {i at : ℕ} {out : List ℕ} (before read : Option StepCounts) (n : ℕ) → IsDeposited a r i at out before
+    → read ≡ option_map (λ (s : StepCounts). record s { words = s.words + 2 }) before → i + 2 < n → IfSome read (λ s. s.deposits + 2 < n)
+two-deposits-room None read n is ticked h = rw ticked tt
+two-deposits-room (Some s) read n is ticked h = rw ticked (omega (arith, ap (λ (t : StepCounts). t.deposits) is.counted))
+
+-- and for one
+pub word-room : {a r : List Bool} {i at : ℕ} {out : List ℕ} (steps : Option StepCounts) (n : ℕ) → IsDeposited a r i at out steps → i < n → IfSome steps (λ s. s.words < n)
+word-room None n is h = tt
+word-room (Some s) n is h = omega (arith, ap (λ (t : StepCounts). t.words) is.counted)
+
+pub deposit-room : {a r : List Bool} {i at : ℕ} {out : List ℕ} (before read : Option StepCounts) (n : ℕ) → IsDeposited a r i at out before
+    → read ≡ option_map (λ (s : StepCounts). record s { words = s.words + 1 }) before → i < n → IfSome read (λ s. s.deposits < n)
+deposit-room None read n is ticked h = rw ticked tt
+deposit-room (Some s) read n is ticked h = rw ticked (omega (arith, ap (λ (t : StepCounts). t.deposits) is.counted))
 
 module _ (f : ℕ → Bool) (a : List Bool) where
   abbrev b : List Bool
@@ -91,13 +124,12 @@ module _ (f : ℕ → Bool) (a : List Bool) where
   abbrev r : List Bool
   r = narrowed_by f a
 
-  pub deposited-more : {i at s m ones w : ℕ} {out new : List ℕ} {before read after : StepCounts} → IsDeposited a r i at out before
+  pub deposited-more : {i at s m ones w : ℕ} {out new : List ℕ} {before after : Option StepCounts} → IsDeposited a r i at out before
       → IsAt a i at m ones → AreBitsFrom f at ones s → Deposits s m w
       → window new (64 * i) ≡ word_bits w → ((p : ℕ) → ((p < 64 * i) ⊎ (64 * i + 64 ≤ p)) → backing_bit new p ≡ backing_bit out p)
-      → read ≡ record before { words = before.words + 1 }
-      → after ≡ record read { deposits = read.deposits + 1; offered = read.offered + ones; placed = read.placed + count (word_bits w) }
+      → after ≡ option_map (λ (s : StepCounts). one_more s ones w) before
       → IsDeposited a r (i + 1) (at + ones) new after
-  deposited-more {i} {at} {s} {m} {ones} {w} {out} {new} so_far mask source is here others read_one deposited =
+  deposited-more {i} {at} {s} {m} {ones} {w} {out} {new} {before} {after} so_far mask source is here others ticked =
       let bits : AreBitsFrom (λ k. get_or b k false) at (count (word_bits m)) s
       = λ k h. source k (omega (arith, mask.counted)) ∙ sym (get_or-first_bits f (count a) (at + k) (omega (arith, mask.counted, place-after_within mask))) in
       let word = deposited-word a b i at s m w (length-first_bits f (count a)) mask.place mask.shows bits is in
@@ -106,12 +138,12 @@ module _ (f : ℕ → Bool) (a : List Bool) where
       record {
         place = place-next mask;
         written = written-more r i w out new so_far.written word here others;
-        counted = rw (deposited, read_one, so_far.counted, offered, placed);
+        counted = counted-next (λ s. one_more s ones w) before after _ _ ticked so_far.counted (rw (offered, placed) refl);
       }
 
   -- all words
-  pub deposited-list : {i at : ℕ} {out : List ℕ} {steps : StepCounts} → i ≡ started_words (length a) → IsDeposited a r i at out steps → values (record { bytes = out; offset = 0; len = length a }) ≡ r
+  pub deposited-list : {i at : ℕ} {out : List ℕ} {steps : Option StepCounts} → i ≡ started_words (length a) → IsDeposited a r i at out steps → values (record { bytes = out; offset = 0; len = length a }) ≡ r
   deposited-list {i} {at} {out} all is = grind (arith, length-rank_intersection, b, list-from_bits, r)
 
-  pub deposited-steps : {i at : ℕ} {out : List ℕ} {steps : StepCounts} → i ≡ started_words (length a) → IsDeposited a r i at out steps → steps ≡ word_steps a r
-  deposited-steps all is = grind (arith, length-rank_intersection a b, all_below)
+  pub deposited-steps : {i at : ℕ} {out : List ℕ} {steps : Option StepCounts} → i ≡ started_words (length a) → IsDeposited a r i at out steps → IfSome steps (λ s. s ≡ word_steps a r)
+  deposited-steps {i} {at} {out} {steps} all is = counted-as steps _ _ is.counted (grind (arith, length-rank_intersection a b, all_below))

@@ -2,6 +2,7 @@
 //! Rank intersection: a mask narrowed by a mask over its true values.
 
 use crate::kit::prelude::*;
+mod count_steps;
 mod deposit;
 mod extract;
 pub(crate) mod kernels;
@@ -13,6 +14,7 @@ mod stack;
 mod steps;
 
 use crate::proved::vortex_mask::mask::{Mask, MaskError};
+use count_steps::{CountSteps, Uncounted};
 pub use deposit::{
     DepositBits, Portable, PortableLoop, deposit_bytewise, deposit_two_holes, deposit_two_lowest,
     deposits_by_loop,
@@ -75,7 +77,7 @@ impl Mask {
 
     #[inline(always)]
     fn intersect_by_rank_any(&self, mask: &Mask) -> Result<Mask, MaskError> {
-        Ok(self.intersect_by_rank_counted_any(mask)?.0)
+        Ok(self.intersect_by_rank_with::<Uncounted>(mask)?.0)
     }
 
     /// The mask of `intersect_by_rank`, with the steps that its kernel takes. No step is counted
@@ -115,32 +117,33 @@ impl Mask {
         &self,
         mask: &Mask,
     ) -> Result<(Mask, Steps), MaskError> {
-        match (self, mask) {
-            (_, Mask::AllTrue(_)) => Ok((self.clone()?, Steps::new())),
-            (_, Mask::AllFalse(_)) | (Mask::AllFalse(_), _) => {
-                Ok((Mask::new_false(self.len()), Steps::new()))
-            }
-            (Mask::AllTrue(_), Mask::Values(_)) => Ok((mask.clone()?, Steps::new())),
-            (Mask::Values(values), Mask::Values(ranks)) => narrow_by_path(values, ranks),
-        }
+        crate::native::by_level!(
+            self.intersect_by_rank_counted_v3(mask),
+            self.intersect_by_rank_counted_any(mask)
+        )
+    }
+
+    #[cfg(target_arch = "x86_64")]
+    #[target_feature(enable = "avx2,bmi1,bmi2,f16c,fma,lzcnt,movbe,popcnt")]
+    fn intersect_by_rank_counted_v3(&self, mask: &Mask) -> Result<(Mask, Steps), MaskError> {
+        self.intersect_by_rank_counted_any(mask)
     }
 
     #[inline(always)]
-    pub(crate) fn intersect_by_rank_counted_any(
-        &self,
-        mask: &Mask,
-    ) -> Result<(Mask, Steps), MaskError> {
+    fn intersect_by_rank_counted_any(&self, mask: &Mask) -> Result<(Mask, Steps), MaskError> {
+        self.intersect_by_rank_with::<Steps>(mask)
+    }
+
+    // The mask of `intersect_by_rank`, with the steps that its kernel takes where `C` counts them.
+    #[inline(always)]
+    fn intersect_by_rank_with<C: CountSteps>(&self, mask: &Mask) -> Result<(Mask, C), MaskError> {
         match (self, mask) {
-            (_, Mask::AllTrue(_)) => Ok((self.clone()?, Steps::new())),
+            (_, Mask::AllTrue(_)) => Ok((self.clone()?, C::none())),
             (_, Mask::AllFalse(_)) | (Mask::AllFalse(_), _) => {
-                Ok((Mask::new_false(self.len()), Steps::new()))
+                Ok((Mask::new_false(self.len()), C::none()))
             }
-            (Mask::AllTrue(_), Mask::Values(_)) => Ok((mask.clone()?, Steps::new())),
-            (Mask::Values(values), Mask::Values(ranks)) => {
-                crate::proved::vortex_mask::intersect_by_rank::narrow::narrow_by_path_any(
-                    values, ranks,
-                )
-            }
+            (Mask::AllTrue(_), Mask::Values(_)) => Ok((mask.clone()?, C::none())),
+            (Mask::Values(values), Mask::Values(ranks)) => narrow_by_path(values, ranks),
         }
     }
 

@@ -1,6 +1,6 @@
 //! The kernel over two bit buffers: one deposit for each started word.
 
-ghost use Rattle.std.specs.Prelude.{◌≡◌, ◌+◌, ◌-◌, ◌*◌, ◌/◌, ◌<◌, ◌≤◌, ◌^◌, ⊤, min, IfOk, IsOkUnless, alloc_error, length};
+ghost use Rattle.std.specs.Prelude.{◌≡◌, ◌+◌, ◌-◌, ◌*◌, ◌/◌, ◌<◌, ◌≤◌, ◌^◌, ⊤, min, IfOk, IfSome, IsOkUnless, alloc_error, length};
 ghost use Rattle.mask_bits.specs.Bitmap.{bitmap};
 ghost use Rattle.mask_bits.specs.Buffer.{backing_bit, values, IsWithinBytes};
 ghost use Rattle.mask_bits.specs.Positions.{count, rank_intersection};
@@ -10,6 +10,7 @@ ghost use Rattle.vortex_mask.specs.MaskValues.{no_caches};
 ghost use Rattle.vortex_mask.specs.Steps.{word_steps};
 ghost use Rattle.mask_bits.specs.Words.{started_words};
 
+use crate::intersect_by_rank::count_steps::CountSteps;
 use crate::intersect_by_rank::deposit::DepositBits;
 use crate::intersect_by_rank::kernels::word_loop::{Narrowed, RankWords};
 use crate::intersect_by_rank::rank_bits::{RankBits, word_inside};
@@ -21,9 +22,7 @@ use std::alloc::Global;
 
 /// The values of one buffer narrowed by those of another, of which `true_count` are true. Each
 /// started word of the first takes one deposit.
-// rust: called at its level
-// rust: copied for each level
-#[tactic(auto, using(mask_bits::proofs::Lists::LawLemmas::rank_intersection_count, std::proofs::lemmas::List::take_at))]
+// rust: level alone
 pub fn intersect_bit_buffers<D: DepositBits>(
     alloc: Global,
     self_buffer: &BitBuffer,
@@ -39,10 +38,32 @@ pub fn intersect_bit_buffers<D: DepositBits>(
     ensures steps { IfOk result (λ r. r.1 ≡ word_steps (values self_buffer.now) (truth r.0)) }
     ensures refused { IsOkUnless result (MaskError.Memory alloc_error) }
 {
+    intersect_bit_buffers_with::<D, Steps>(alloc, self_buffer, mask_buffer, true_count)
+}
+
+// The mask of `intersect_bit_buffers`, with the steps where `C` counts them.
+// rust: inline
+#[tactic(auto, using(mask_bits::proofs::Lists::LawLemmas::rank_intersection_count, std::proofs::lemmas::List::take_at))]
+pub(crate) fn intersect_bit_buffers_with<D: DepositBits, C: CountSteps>(
+    alloc: Global,
+    self_buffer: &BitBuffer,
+    mask_buffer: &BitBuffer,
+    true_count: usize,
+) -> Result<(Mask, C), MaskError>
+    requires fitting { length (values mask_buffer.now) ≡ count (values self_buffer.now) }
+    requires counted { true_count ≡ count (values mask_buffer.now) }
+    ensures list { IfOk result (λ r.
+        truth r.0 ≡ rank_intersection (values self_buffer.now) (values mask_buffer.now)) }
+    ensures variant { IfOk result (λ r. variant r.0 ≡ fitting_variant all_false (truth r.0)) }
+    ensures caches { IfOk result (λ r. caches r.0 ≡ no_caches) }
+    ensures steps { IfOk result (λ r. IfSome (C.step_counts r.1)
+        (λ s. s ≡ word_steps (values self_buffer.now) (truth r.0))) }
+    ensures refused { IsOkUnless result (MaskError.Memory alloc_error) }
+{
     let len = self_buffer.len();
     let mut words = vec![in alloc; 0u8; 8 * started_words(len)]?;
     let ranks = RankBits::new(mask_buffer);
-    let steps = narrow_by_bits::<D>(&self_buffer.chunks(), &ranks, &mut words);
+    let steps = narrow_by_bits_with::<D, C>(&self_buffer.chunks(), &ranks, &mut words);
     Ok((Mask::of_words(alloc, words, len, true_count)?, steps))
 }
 
@@ -62,6 +83,24 @@ pub fn narrow_by_bits<D: DepositBits>(
         ≡ rank_intersection chunks.now (values ranks.now) }
     ensures steps { result
         ≡ word_steps chunks.now (rank_intersection chunks.now (values ranks.now)) }
+{
+    narrow_by_bits_with::<D, Steps>(chunks, ranks, out)
+}
+
+// Writes what `narrow_by_bits` does, and answers the steps where `C` counts them.
+// rust: inline
+fn narrow_by_bits_with<D: DepositBits, C: CountSteps>(
+    chunks: &BitChunks<'_>,
+    ranks: &RankBits<'_>,
+    out: &mut [u8],
+) -> C
+    requires fitting { length (values ranks.now) ≡ count chunks.now }
+    requires within { IsWithinBytes ranks.now.bytes ranks.now.offset ranks.now.len }
+    requires room { length out.old ≡ 8 * started_words (length chunks.now) }
+    ensures list { bitmap out.new 0 (length chunks.now)
+        ≡ rank_intersection chunks.now (values ranks.now) }
+    ensures steps { IfSome (C.step_counts result)
+        (λ s. s ≡ word_steps chunks.now (rank_intersection chunks.now (values ranks.now))) }
 {
     let inside = BitsInside {
         bytes: ranks.bytes(),

@@ -1,7 +1,7 @@
 //! The loop of the kernel over indices of a rank mask that narrows most words: the ranks become a block
 //! of bits, by which pairs of whole words are narrowed as by the bits of a buffer.
 
-ghost use Rattle.std.specs.Prelude.{◌≡◌, ◌+◌, ◌-◌, ◌*◌, ◌/◌, ◌<◌, ◌≤◌, ◌^◌, ℕ, All, false, length, slice_index};
+ghost use Rattle.std.specs.Prelude.{◌≡◌, ◌+◌, ◌-◌, ◌*◌, ◌/◌, ◌<◌, ◌≤◌, ◌^◌, ℕ, All, IfSome, false, length, slice_index};
 ghost use Rattle.std.specs.List.Sorted.{IsStrictlyIncreasing};
 ghost use Rattle.mask_bits.specs.Buffer.{backing_bit};
 ghost use Rattle.mask_bits.specs.Positions.{count};
@@ -9,6 +9,7 @@ ghost use Rattle.mask_bits.specs.Words.{started_words};
 ghost use Rattle.vortex_mask.specs.Ranks.{AreSplit, CanHold, HoldsRanks, HoldsUpTo, is_listed, narrowed_by};
 ghost use Rattle.vortex_mask.specs.Steps.{IsDeposited, no_steps};
 
+use crate::intersect_by_rank::count_steps::CountSteps;
 use crate::intersect_by_rank::deposit::DepositBits;
 use crate::intersect_by_rank::kernels::rank_lists::bits_of_ranks;
 use crate::intersect_by_rank::kernels::word_loop::{Narrowed, RankWords};
@@ -18,8 +19,8 @@ use mask_bits::words::set_word;
 
 // Narrows all pairs of whole words.
 #[inline(always)]
-pub(super) fn narrow_by_blocks<D: DepositBits>(
-    done: &mut Narrowed,
+pub(super) fn narrow_by_blocks<D: DepositBits, C: CountSteps>(
+    done: &mut Narrowed<C>,
     chunks: &BitChunks<'_>,
     ranks: &[usize],
     out: &mut [u8],
@@ -28,11 +29,14 @@ pub(super) fn narrow_by_blocks<D: DepositBits>(
     requires ascending { IsStrictlyIncreasing ranks.now }
     requires within { All (λ k. k < count chunks.now) ranks.now }
     requires room { length out.old ≡ 8 * started_words (length chunks.now) }
-    requires none { done.old ≡ record { steps = no_steps; pairs = 0; at = 0; next = 0 } }
+    requires steps { IfSome (C.step_counts done.old.steps) (λ s. s ≡ no_steps) }
+    requires pairs { done.old.pairs ≡ 0 }
+    requires at { done.old.at ≡ 0 }
+    requires next { done.old.next ≡ 0 }
     ensures there { done.new.pairs ≤ length chunks.now / 128 }
     ensures passed { AreSplit ranks.now done.new.next done.new.at }
     ensures narrowed { IsDeposited chunks.now (narrowed_by (is_listed ranks.now) chunks.now)
-        (2 * done.new.pairs) done.new.at out.new done.new.steps }
+        (2 * done.new.pairs) done.new.at out.new (C.step_counts done.new.steps) }
 {
     while done.pairs < chunks.len() / 2 {
         let base = done.at;

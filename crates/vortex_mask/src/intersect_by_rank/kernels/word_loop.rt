@@ -1,14 +1,14 @@
 //! The loop over words: each started word takes a deposit of rank bits, whole words two at a time.
 
-ghost use Rattle.std.specs.Prelude.{◌≡◌, ◌+◌, ◌*◌, ◌/◌, ◌<◌, ◌≤◌, ◌^◌, ◌↔◌, IsTrue, ℕ, length, slice_index};
+ghost use Rattle.std.specs.Prelude.{◌≡◌, ◌+◌, ◌*◌, ◌/◌, ◌<◌, ◌≤◌, ◌^◌, ◌↔◌, IsTrue, IfSome, ℕ, length, slice_index};
 ghost use Rattle.mask_bits.specs.Bitmap.{bitmap};
 ghost use Rattle.mask_bits.specs.Positions.{count};
 ghost use Rattle.mask_bits.specs.Words.{started_words};
 ghost use Rattle.vortex_mask.specs.Ranks.{AreBitsFrom, narrowed_by};
 ghost use Rattle.vortex_mask.specs.Steps.{IsDeposited, no_steps, word_steps};
 
+use crate::intersect_by_rank::count_steps::CountSteps;
 use crate::intersect_by_rank::deposit::DepositBits;
-use crate::intersect_by_rank::steps::Steps;
 use mask_bits::BitChunks;
 use mask_bits::words::set_word;
 
@@ -56,8 +56,8 @@ pub(super) trait RankWords {
 
 // How far the words of a list are narrowed, and the steps that took.
 #[derive(Drop)]
-pub(super) struct Narrowed {
-    pub(super) steps: Steps,
+pub(super) struct Narrowed<C> {
+    pub(super) steps: C,
     pub(super) pairs: usize,
     // where the next rank bit stands
     pub(super) at: usize,
@@ -65,13 +65,16 @@ pub(super) struct Narrowed {
     pub(super) next: usize,
 }
 
-impl Narrowed {
+impl<C: CountSteps> Narrowed<C> {
     // No words yet.
-    pub(super) fn new(at: usize) -> Narrowed
-        ensures { result ≡ record { steps = no_steps; pairs = 0; at = at; next = 0 } }
+    pub(super) fn new(at: usize) -> Narrowed<C>
+        ensures steps { IfSome (C.step_counts result.steps) (λ s. s ≡ no_steps) }
+        ensures pairs { result.pairs ≡ 0 }
+        ensures at { result.at ≡ at }
+        ensures next { result.next ≡ 0 }
     {
         Narrowed {
-            steps: Steps::new(),
+            steps: C::none(),
             pairs: 0,
             at,
             next: 0,
@@ -91,26 +94,28 @@ impl Narrowed {
         requires ranks { count chunks.now ≤ R.end ranks.now }
         requires passed { R.IsPassed ranks.now self.old.next self.old.at }
         requires begun { IsDeposited chunks.now (narrowed_by (R.bit ranks.now) chunks.now)
-            (2 * self.old.pairs) (R.number ranks.now self.old.at) out.old self.old.steps }
+            (2 * self.old.pairs) (R.number ranks.now self.old.at) out.old
+            (C.step_counts self.old.steps) }
         ensures there { self.new.pairs ≤ length chunks.now / 128 }
         ensures goes_on { R.Reaches ranks.now self.old.at
             → self.old.pairs < length chunks.now / 128 → self.old.pairs < self.new.pairs }
         ensures passed { R.IsPassed ranks.now self.new.next self.new.at }
         ensures narrowed { IsDeposited chunks.now (narrowed_by (R.bit ranks.now) chunks.now)
-            (2 * self.new.pairs) (R.number ranks.now self.new.at) out.new self.new.steps }
+            (2 * self.new.pairs) (R.number ranks.now self.new.at) out.new
+            (C.step_counts self.new.steps) }
     {
         let pairs = chunks.len() / 2;
         prove!(2 * pairs <= chunks.started_words());
         while self.pairs < pairs && ranks.reaches(self.at) {
             let i = 2 * self.pairs;
-            let both = self.steps.two_words(chunks, i);
+            let both = self.steps.read_two_words(chunks, i);
             let masks = [both.0, both.1];
             let ones = [
                 masks[0].count_ones() as usize,
                 masks[1].count_ones() as usize,
             ];
             let sources = ranks.two_words(&mut self.next, self.at, ones);
-            let kept = self.steps.deposit_words::<D>(sources, masks, ones);
+            let kept = self.steps.deposit_two_words::<D>(sources, masks, ones);
             set_word(out, i, kept[0]);
             set_word(out, i + 1, kept[1]);
             self.at = self.at + ones[0] + ones[1];
@@ -125,27 +130,27 @@ impl Narrowed {
         chunks: &BitChunks<'_>,
         ranks: &R,
         out: &mut [u8],
-    ) -> Steps
+    ) -> C
         requires there { self.pairs ≤ length chunks.now / 128 }
         requires room { length out.old ≡ 8 * started_words (length chunks.now) }
         requires ranks { count chunks.now ≤ R.end ranks.now }
         requires reaches { (at : ℕ) → R.Reaches ranks.now at }
         requires passed { R.IsPassed ranks.now self.next self.at }
         requires begun { IsDeposited chunks.now (narrowed_by (R.bit ranks.now) chunks.now)
-            (2 * self.pairs) (R.number ranks.now self.at) out.old self.steps }
+            (2 * self.pairs) (R.number ranks.now self.at) out.old (C.step_counts self.steps) }
         ensures list { bitmap out.new 0 (length chunks.now)
             ≡ narrowed_by (R.bit ranks.now) chunks.now }
-        ensures steps { result
-            ≡ word_steps chunks.now (narrowed_by (R.bit ranks.now) chunks.now) }
+        ensures steps { IfSome (C.step_counts result)
+            (λ s. s ≡ word_steps chunks.now (narrowed_by (R.bit ranks.now) chunks.now)) }
     {
         let mut done = self;
         let words = chunks.started_words();
         done.narrow_pairs::<D, R>(chunks, ranks, out);
         for i in 2 * done.pairs..words {
-            let word = done.steps.word(chunks, i);
+            let word = done.steps.read_word(chunks, i);
             let ones = word.count_ones() as usize;
             let source = ranks.two_words(&mut done.next, done.at, [ones, 0])[0];
-            let kept = done.steps.deposit::<D>(source, word, ones);
+            let kept = done.steps.deposit_word::<D>(source, word, ones);
             set_word(out, i, kept);
             done.at += ones;
         }

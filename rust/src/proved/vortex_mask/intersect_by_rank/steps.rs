@@ -48,7 +48,7 @@ impl Steps {
     /// # Proved ([terms](crate::definitions))
     ///
     /// - `result ≡ self.now.words`
-    #[inline(always)]
+    #[inline]
     pub fn words(&self) -> usize {
         self.words
     }

@@ -4,6 +4,7 @@
 use crate::kit::prelude::*;
 use crate::proved::mask_bits::words::started_words;
 use crate::proved::mask_bits::{BitBuffer, BitChunks};
+use crate::proved::vortex_mask::intersect_by_rank::count_steps::CountSteps;
 use crate::proved::vortex_mask::intersect_by_rank::deposit::DepositBits;
 use crate::proved::vortex_mask::intersect_by_rank::kernels::word_loop::{Narrowed, RankWords};
 use crate::proved::vortex_mask::intersect_by_rank::rank_bits::{RankBits, word_inside};
@@ -16,28 +17,42 @@ pub fn intersect_bit_buffers<D: DepositBits>(
     mask_buffer: &BitBuffer,
     true_count: usize,
 ) -> Result<(Mask, Steps), MaskError> {
-    let len = self_buffer.len();
-    let mut words = crate::kit::filled(0u8, 8 * started_words(len))?;
-    let ranks = RankBits::new(mask_buffer);
-    let steps = narrow_by_bits::<D>(&self_buffer.chunks(), &ranks, &mut words);
-    Ok((Mask::of_words(words, len, true_count)?, steps))
+    crate::native::by_level!(
+        intersect_bit_buffers_v3::<D>(self_buffer, mask_buffer, true_count),
+        intersect_bit_buffers_any::<D>(self_buffer, mask_buffer, true_count)
+    )
 }
 
-#[inline(always)]
-pub(crate) fn intersect_bit_buffers_any<D: DepositBits>(
+#[cfg(target_arch = "x86_64")]
+#[target_feature(enable = "avx2,bmi1,bmi2,f16c,fma,lzcnt,movbe,popcnt")]
+fn intersect_bit_buffers_v3<D: DepositBits>(
     self_buffer: &BitBuffer,
     mask_buffer: &BitBuffer,
     true_count: usize,
 ) -> Result<(Mask, Steps), MaskError> {
+    intersect_bit_buffers_any::<D>(self_buffer, mask_buffer, true_count)
+}
+
+#[inline(always)]
+fn intersect_bit_buffers_any<D: DepositBits>(
+    self_buffer: &BitBuffer,
+    mask_buffer: &BitBuffer,
+    true_count: usize,
+) -> Result<(Mask, Steps), MaskError> {
+    intersect_bit_buffers_with::<D, Steps>(self_buffer, mask_buffer, true_count)
+}
+
+// The mask of `intersect_bit_buffers`, with the steps where `C` counts them.
+#[inline(always)]
+pub(crate) fn intersect_bit_buffers_with<D: DepositBits, C: CountSteps>(
+    self_buffer: &BitBuffer,
+    mask_buffer: &BitBuffer,
+    true_count: usize,
+) -> Result<(Mask, C), MaskError> {
     let len = self_buffer.len();
     let mut words = crate::kit::filled(0u8, 8 * started_words(len))?;
     let ranks = RankBits::new(mask_buffer);
-    let steps =
-        crate::proved::vortex_mask::intersect_by_rank::kernels::bit_buffers::narrow_by_bits_any::<D>(
-            &self_buffer.chunks(),
-            &ranks,
-            &mut words,
-        );
+    let steps = narrow_by_bits_with::<D, C>(&self_buffer.chunks(), &ranks, &mut words);
     Ok((Mask::of_words(words, len, true_count)?, steps))
 }
 
@@ -71,6 +86,16 @@ pub(crate) fn narrow_by_bits_any<D: DepositBits>(
     ranks: &RankBits<'_>,
     out: &mut [u8],
 ) -> Steps {
+    narrow_by_bits_with::<D, Steps>(chunks, ranks, out)
+}
+
+// Writes what `narrow_by_bits` does, and answers the steps where `C` counts them.
+#[inline(always)]
+fn narrow_by_bits_with<D: DepositBits, C: CountSteps>(
+    chunks: &BitChunks<'_>,
+    ranks: &RankBits<'_>,
+    out: &mut [u8],
+) -> C {
     let inside = BitsInside { bytes: ranks.bytes(), offset: ranks.offset() };
     let mut done = Narrowed::new(ranks.offset());
     done.narrow_pairs::<D, _>(chunks, &inside, out);

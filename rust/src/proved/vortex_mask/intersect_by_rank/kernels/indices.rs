@@ -2,6 +2,7 @@
 //! The kernel over two lists of indices.
 
 use crate::kit::prelude::*;
+use crate::proved::vortex_mask::intersect_by_rank::count_steps::CountSteps;
 use crate::proved::vortex_mask::intersect_by_rank::steps::Steps;
 use crate::proved::vortex_mask::mask::{Mask, MaskError};
 
@@ -11,10 +12,20 @@ pub fn intersect_by_rank_indices(
     self_indices: &[usize],
     mask_indices: &[usize],
 ) -> Result<(Mask, Steps), MaskError> {
+    intersect_by_rank_indices_with::<Steps>(len, self_indices, mask_indices)
+}
+
+// The mask of `intersect_by_rank_indices`, with no step.
+#[inline]
+pub(crate) fn intersect_by_rank_indices_with<C: CountSteps>(
+    len: usize,
+    self_indices: &[usize],
+    mask_indices: &[usize],
+) -> Result<(Mask, C), MaskError> {
     let mut indices = Vec::with_room(mask_indices.len())?;
     for rank in mask_indices {
         indices.try_push(self_indices[*rank])?;
     }
     let mask = Mask::of_indices(len, indices)?;
-    Ok((mask, Steps::new()))
+    Ok((mask, C::none()))
 }

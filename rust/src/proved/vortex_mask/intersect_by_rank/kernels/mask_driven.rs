@@ -3,6 +3,7 @@
 
 use crate::kit::prelude::*;
 use crate::proved::mask_bits::{BitBuffer, BitChunks};
+use crate::proved::vortex_mask::intersect_by_rank::count_steps::CountSteps;
 use crate::proved::vortex_mask::intersect_by_rank::select::SelectBit;
 use crate::proved::vortex_mask::intersect_by_rank::steps::Steps;
 use crate::proved::vortex_mask::mask::{Mask, MaskError};
@@ -13,40 +14,52 @@ pub fn intersect_mask_driven<S: SelectBit, I: Iterator<Item = usize>>(
     mask_indices: I,
     true_count: usize,
 ) -> Result<(Mask, Steps), MaskError> {
+    intersect_mask_driven_with::<S, I, Steps>(self_buffer, mask_indices, true_count)
+}
+
+// The mask of `intersect_mask_driven`, with the steps where `C` counts them.
+#[inline]
+pub(crate) fn intersect_mask_driven_with<S: SelectBit, I: Iterator<Item = usize>, C: CountSteps>(
+    self_buffer: &BitBuffer,
+    mask_indices: I,
+    true_count: usize,
+) -> Result<(Mask, C), MaskError> {
     crate::native::by_level!(
-        intersect_mask_driven_v3::<S, _>(self_buffer, mask_indices, true_count),
-        intersect_mask_driven_any::<S, _>(self_buffer, mask_indices, true_count)
+        intersect_mask_driven_with_v3::<S, _, C>(self_buffer, mask_indices, true_count),
+        intersect_mask_driven_with_any::<S, _, C>(self_buffer, mask_indices, true_count)
     )
 }
 
 #[cfg(target_arch = "x86_64")]
 #[target_feature(enable = "avx2,bmi1,bmi2,f16c,fma,lzcnt,movbe,popcnt")]
-fn intersect_mask_driven_v3<S: SelectBit, I: Iterator<Item = usize>>(
+fn intersect_mask_driven_with_v3<S: SelectBit, I: Iterator<Item = usize>, C: CountSteps>(
     self_buffer: &BitBuffer,
     mask_indices: I,
     true_count: usize,
-) -> Result<(Mask, Steps), MaskError> {
-    intersect_mask_driven_any::<S, _>(self_buffer, mask_indices, true_count)
+) -> Result<(Mask, C), MaskError> {
+    intersect_mask_driven_with_any::<S, _, C>(self_buffer, mask_indices, true_count)
 }
 
 #[inline(always)]
-fn intersect_mask_driven_any<S: SelectBit, I: Iterator<Item = usize>>(
+fn intersect_mask_driven_with_any<S: SelectBit, I: Iterator<Item = usize>, C: CountSteps>(
     self_buffer: &BitBuffer,
     mask_indices: I,
     true_count: usize,
-) -> Result<(Mask, Steps), MaskError> {
+) -> Result<(Mask, C), MaskError> {
     let (len, chunks) = (self_buffer.len(), self_buffer.chunks());
     let mut indices = Vec::with_room(true_count)?;
-    let mut steps = Steps::new();
-    let mut reached = Reached { word: 0, before: 0 };
+    let mut steps = C::none();
+    let mut reached = Reached { words: 0, word: 0, before: 0 };
     for rank in mask_indices {
-        indices.try_push(reached.index_of::<S>(&chunks, &mut steps, rank))?;
+        indices.try_push(reached.index_of::<S, C>(&chunks, &mut steps, rank))?;
     }
     Ok((Mask::of_indices(len, indices)?, steps))
 }
 
-// How far the words have been read. The steps count them: a second count would take time for each word.
+// How far the words have been read.
 struct Reached {
+    // how many of them
+    words: usize,
     // the last of them
     word: u64,
     // how many true values stand before it
@@ -57,19 +70,19 @@ impl Reached {
     // The index of the true value at `rank`, which doesn't stand before the last word. Reads on
     // until it is in the last word. Inlined, so that what is reached stays in registers.
     #[inline(always)]
-    fn index_of<S: SelectBit>(
+    fn index_of<S: SelectBit, C: CountSteps>(
         &mut self,
         chunks: &BitChunks<'_>,
-        steps: &mut Steps,
+        steps: &mut C,
         rank: usize,
     ) -> usize {
         let mut end = self.before + self.word.count_ones() as usize;
         while end <= rank {
             self.before = end;
-            let next = steps.words();
-            self.word = steps.word_proved(chunks, next);
+            self.word = steps.read_word(chunks, self.words);
+            self.words += 1;
             end += self.word.count_ones() as usize;
         }
-        64 * (steps.words() - 1) + steps.select_proved::<S>(self.word, rank - self.before)
+        64 * (self.words - 1) + steps.select_bit::<S>(self.word, rank - self.before)
     }
 }

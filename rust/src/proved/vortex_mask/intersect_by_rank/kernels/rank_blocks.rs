@@ -5,6 +5,7 @@
 use crate::kit::prelude::*;
 use crate::proved::mask_bits::BitChunks;
 use crate::proved::mask_bits::words::set_word;
+use crate::proved::vortex_mask::intersect_by_rank::count_steps::CountSteps;
 use crate::proved::vortex_mask::intersect_by_rank::deposit::DepositBits;
 use crate::proved::vortex_mask::intersect_by_rank::kernels::rank_lists::bits_of_ranks;
 use crate::proved::vortex_mask::intersect_by_rank::kernels::word_loop::{Narrowed, RankWords};
@@ -12,8 +13,8 @@ use crate::proved::vortex_mask::intersect_by_rank::rank_bits::word_inside;
 
 // Narrows all pairs of whole words.
 #[inline(always)]
-pub(super) fn narrow_by_blocks<D: DepositBits>(
-    done: &mut Narrowed,
+pub(super) fn narrow_by_blocks<D: DepositBits, C: CountSteps>(
+    done: &mut Narrowed<C>,
     chunks: &BitChunks<'_>,
     ranks: &[usize],
     out: &mut [u8],

@@ -4,6 +4,7 @@
 use crate::kit::prelude::*;
 use crate::proved::mask_bits::words::started_words;
 use crate::proved::mask_bits::{BitBuffer, BitChunks};
+use crate::proved::vortex_mask::intersect_by_rank::count_steps::CountSteps;
 use crate::proved::vortex_mask::intersect_by_rank::deposit::DepositBits;
 use crate::proved::vortex_mask::intersect_by_rank::kernels::rank_blocks::narrow_by_blocks;
 use crate::proved::vortex_mask::intersect_by_rank::kernels::rank_lists::ListedRanks;
@@ -16,9 +17,18 @@ pub fn intersect_bit_buffer_by_rank_indices<D: DepositBits>(
     self_buffer: &BitBuffer,
     mask_indices: &[usize],
 ) -> Result<(Mask, Steps), MaskError> {
+    intersect_bit_buffer_by_rank_indices_with::<D, Steps>(self_buffer, mask_indices)
+}
+
+// The mask of `intersect_bit_buffer_by_rank_indices`, with the steps where `C` counts them.
+#[inline]
+pub(crate) fn intersect_bit_buffer_by_rank_indices_with<D: DepositBits, C: CountSteps>(
+    self_buffer: &BitBuffer,
+    mask_indices: &[usize],
+) -> Result<(Mask, C), MaskError> {
     let len = self_buffer.len();
     let mut words = crate::kit::filled(0u8, 8 * started_words(len))?;
-    let steps = narrow_at_ranks::<D>(&self_buffer.chunks(), mask_indices, &mut words);
+    let steps = narrow_at_ranks_with::<D, C>(&self_buffer.chunks(), mask_indices, &mut words);
     Ok((Mask::of_words(words, len, mask_indices.len())?, steps))
 }
 
@@ -30,33 +40,43 @@ pub fn narrow_at_ranks<D: DepositBits>(
     ranks: &[usize],
     out: &mut [u8],
 ) -> Steps {
+    narrow_at_ranks_with::<D, Steps>(chunks, ranks, out)
+}
+
+// Writes what `narrow_at_ranks` does, and answers the steps where `C` counts them.
+#[inline]
+fn narrow_at_ranks_with<D: DepositBits, C: CountSteps>(
+    chunks: &BitChunks<'_>,
+    ranks: &[usize],
+    out: &mut [u8],
+) -> C {
     crate::native::by_level!(
-        narrow_at_ranks_v3::<D>(chunks, ranks, out),
-        narrow_at_ranks_any::<D>(chunks, ranks, out)
+        narrow_at_ranks_with_v3::<D, C>(chunks, ranks, out),
+        narrow_at_ranks_with_any::<D, C>(chunks, ranks, out)
     )
 }
 
 #[cfg(target_arch = "x86_64")]
 #[target_feature(enable = "avx2,bmi1,bmi2,f16c,fma,lzcnt,movbe,popcnt")]
-fn narrow_at_ranks_v3<D: DepositBits>(
+fn narrow_at_ranks_with_v3<D: DepositBits, C: CountSteps>(
     chunks: &BitChunks<'_>,
     ranks: &[usize],
     out: &mut [u8],
-) -> Steps {
-    narrow_at_ranks_any::<D>(chunks, ranks, out)
+) -> C {
+    narrow_at_ranks_with_any::<D, C>(chunks, ranks, out)
 }
 
 #[inline(always)]
-fn narrow_at_ranks_any<D: DepositBits>(
+fn narrow_at_ranks_with_any<D: DepositBits, C: CountSteps>(
     chunks: &BitChunks<'_>,
     ranks: &[usize],
     out: &mut [u8],
-) -> Steps {
+) -> C {
     if chunks.len() < SOME_WORDS || ranks.len() / RANKS_IN_A_WORD > chunks.len() {
-        return narrow_by_list::<D>(chunks, ranks, out);
+        return narrow_by_list::<D, C>(chunks, ranks, out);
     }
     let mut done = Narrowed::new(0);
-    narrow_by_blocks::<D>(&mut done, chunks, ranks, out);
+    narrow_by_blocks::<D, C>(&mut done, chunks, ranks, out);
     done.narrow_rest::<D, _>(chunks, &ListedRanks { ranks }, out)
 }
 
@@ -69,32 +89,32 @@ const SOME_WORDS: usize = 64;
 
 // Narrows word after word. Never inlined, so that its loop has all registers.
 #[inline(never)]
-fn narrow_by_list<D: DepositBits>(
+fn narrow_by_list<D: DepositBits, C: CountSteps>(
     chunks: &BitChunks<'_>,
     ranks: &[usize],
     out: &mut [u8],
-) -> Steps {
+) -> C {
     crate::native::by_level!(
-        narrow_by_list_v3::<D>(chunks, ranks, out),
-        narrow_by_list_any::<D>(chunks, ranks, out)
+        narrow_by_list_v3::<D, C>(chunks, ranks, out),
+        narrow_by_list_any::<D, C>(chunks, ranks, out)
     )
 }
 
 #[cfg(target_arch = "x86_64")]
 #[target_feature(enable = "avx2,bmi1,bmi2,f16c,fma,lzcnt,movbe,popcnt")]
-fn narrow_by_list_v3<D: DepositBits>(
+fn narrow_by_list_v3<D: DepositBits, C: CountSteps>(
     chunks: &BitChunks<'_>,
     ranks: &[usize],
     out: &mut [u8],
-) -> Steps {
-    narrow_by_list_any::<D>(chunks, ranks, out)
+) -> C {
+    narrow_by_list_any::<D, C>(chunks, ranks, out)
 }
 
 #[inline(always)]
-fn narrow_by_list_any<D: DepositBits>(
+fn narrow_by_list_any<D: DepositBits, C: CountSteps>(
     chunks: &BitChunks<'_>,
     ranks: &[usize],
     out: &mut [u8],
-) -> Steps {
+) -> C {
     Narrowed::new(0).narrow_rest::<D, _>(chunks, &ListedRanks { ranks }, out)
 }

@@ -4,8 +4,8 @@
 use crate::kit::prelude::*;
 use crate::proved::mask_bits::BitChunks;
 use crate::proved::mask_bits::words::set_word;
+use crate::proved::vortex_mask::intersect_by_rank::count_steps::CountSteps;
 use crate::proved::vortex_mask::intersect_by_rank::deposit::DepositBits;
-use crate::proved::vortex_mask::intersect_by_rank::steps::Steps;
 
 // Where the bits of a rank mask are read from.
 pub(super) trait RankWords {
@@ -17,8 +17,8 @@ pub(super) trait RankWords {
 }
 
 // How far the words of a list are narrowed, and the steps that took.
-pub(super) struct Narrowed {
-    pub(super) steps: Steps,
+pub(super) struct Narrowed<C> {
+    pub(super) steps: C,
     pub(super) pairs: usize,
     // where the next rank bit stands
     pub(super) at: usize,
@@ -26,11 +26,11 @@ pub(super) struct Narrowed {
     pub(super) next: usize,
 }
 
-impl Narrowed {
+impl<C: CountSteps> Narrowed<C> {
     // No words yet.
     #[inline(always)]
-    pub(super) fn new(at: usize) -> Narrowed {
-        Narrowed { steps: Steps::new(), pairs: 0, at, next: 0 }
+    pub(super) fn new(at: usize) -> Narrowed<C> {
+        Narrowed { steps: C::none(), pairs: 0, at, next: 0 }
     }
 
     // Narrows pairs of whole words, as long as `ranks` reaches.
@@ -45,11 +45,11 @@ impl Narrowed {
 
         while self.pairs < pairs && ranks.reaches(self.at) {
             let i = 2 * self.pairs;
-            let both = self.steps.two_words(chunks, i);
+            let both = self.steps.read_two_words(chunks, i);
             let masks = [both.0, both.1];
             let ones = [masks[0].count_ones() as usize, masks[1].count_ones() as usize];
             let sources = ranks.two_words(&mut self.next, self.at, ones);
-            let kept = self.steps.deposit_words::<D>(sources, masks, ones);
+            let kept = self.steps.deposit_two_words::<D>(sources, masks, ones);
             set_word(out, i, kept[0]);
             set_word(out, i + 1, kept[1]);
             self.at = self.at + ones[0] + ones[1];
@@ -64,15 +64,15 @@ impl Narrowed {
         chunks: &BitChunks<'_>,
         ranks: &R,
         out: &mut [u8],
-    ) -> Steps {
+    ) -> C {
         let mut done = self;
         let words = chunks.started_words();
         done.narrow_pairs::<D, R>(chunks, ranks, out);
         for i in 2 * done.pairs..words {
-            let word = done.steps.word_proved(chunks, i);
+            let word = done.steps.read_word(chunks, i);
             let ones = word.count_ones() as usize;
             let source = ranks.two_words(&mut done.next, done.at, [ones, 0])[0];
-            let kept = done.steps.deposit_proved::<D>(source, word, ones);
+            let kept = done.steps.deposit_word::<D>(source, word, ones);
             set_word(out, i, kept);
             done.at += ones;
         }

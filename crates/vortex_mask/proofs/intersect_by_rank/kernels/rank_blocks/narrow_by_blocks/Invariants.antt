@@ -5,7 +5,7 @@ use Rattle.vortex_mask.proofs.intersect_by_rank.kernels.rank_blocks.narrow_by_bl
 abbrev pub invariant-loop-done : goal.invariant-loop-done
 invariant-loop-done g l = record {
   there : l.done.pairs ≤ length l.chunks / 128;
-  narrowed : IsDeposited l.chunks (narrowed_by (is_listed l.ranks) l.chunks) (2 * l.done.pairs) l.done.at l.out l.done.steps;
+  narrowed : IsDeposited l.chunks (narrowed_by (is_listed l.ranks) l.chunks) (2 * l.done.pairs) l.done.at l.out (g.C.CountSteps.step_counts l.done.steps);
   split : AreSplit l.ranks l.done.next l.done.at;
 }
 

@@ -8,7 +8,7 @@ invariant-loop-self g l = record {
   unmoved : l.self.pairs ≡ l.fn.self.pairs → l.self.at ≡ l.fn.self.at;
   there : l.self.pairs ≤ length l.chunks / 128;
   passed : g.R.RankWords.IsPassed l.ranks l.self.next l.self.at;
-  narrowed : IsDeposited l.chunks (narrowed_by (g.R.RankWords.bit l.ranks) l.chunks) (2 * l.self.pairs) (g.R.RankWords.number l.ranks l.self.at) l.out l.self.steps;
+  narrowed : IsDeposited l.chunks (narrowed_by (g.R.RankWords.bit l.ranks) l.chunks) (2 * l.self.pairs) (g.R.RankWords.number l.ranks l.self.at) l.out (g.C.CountSteps.step_counts l.self.steps);
 }
 
 abbrev pub decreases-loop-self : goal.decreases-loop-self

@@ -5,5 +5,5 @@ use Rattle.vortex_mask.proofs.intersect_by_rank.kernels.word_loop.Narrowed.narro
 abbrev pub invariant-loop-i : goal.invariant-loop-i
 invariant-loop-i g l = record {
   passed : g.R.RankWords.IsPassed l.ranks l.done.next l.done.at;
-  narrowed : IsDeposited l.chunks (narrowed_by (g.R.RankWords.bit l.ranks) l.chunks) l.i (g.R.RankWords.number l.ranks l.done.at) l.out l.done.steps;
+  narrowed : IsDeposited l.chunks (narrowed_by (g.R.RankWords.bit l.ranks) l.chunks) l.i (g.R.RankWords.number l.ranks l.done.at) l.out (g.C.CountSteps.step_counts l.done.steps);
 }

@@ -1,6 +1,6 @@
 use Rattle.vortex_mask.proofs.Common.{◌≡◌, ℕ, List, Bool, length, take, ◌++◌, ap, ◌∙◌, arith, common_steps, take_at, values, positions, true_at, at_indices, length-bitmap}
 use Rattle.vortex_mask.proofs.Lists.PlaceListLemmas.{positions-at_indices, count-at_indices}
-use Rattle.vortex_mask.proofs.intersect_by_rank.kernels.rank_indices.intersect_bit_buffer_by_rank_indices.Goals as goal
+use Rattle.vortex_mask.proofs.intersect_by_rank.kernels.rank_indices.intersect_bit_buffer_by_rank_indices_with.Goals as goal
 
 -- what is written, as the words are lent out and given back
 written : (out rest : List ℕ) (size len : ℕ) (a m : List Bool) (qs : List ℕ) → length out ≡ size → m ≡ a → len ≡ length a

@@ -1,6 +1,6 @@
 use Rattle.vortex_mask.proofs.Common.{◌<◌, subst, sym, ◌∙◌, values, count, All}
-use Rattle.vortex_mask.proofs.Kernels.DrivenLemmas.{not-above-next, ranks-at_turn, found-more, found-all, indices-ascending, indices-within}
-use Rattle.vortex_mask.proofs.intersect_by_rank.kernels.mask_driven.intersect_mask_driven.Goals as goal
+use Rattle.vortex_mask.proofs.Kernels.DrivenLemmas.{not-above-next, ranks-at_turn, found-more, found-all, indices-ascending, indices-within, words-counted}
+use Rattle.vortex_mask.proofs.intersect_by_rank.kernels.mask_driven.intersect_mask_driven_with.Goals as goal
 
 pub index_of-requires-clause-ahead : goal.index_of-requires-clause-ahead
 index_of-requires-clause-ahead g c =
@@ -10,10 +10,13 @@ index_of-requires-clause-ahead g c =
     let ranks = ranks-at_turn g.I.Iterator.next_gives c.args.mask_indices (count m) c.args.true_count c.requires.ranks _ c.into_iter-rank-iterator.ensures.into_iter_gives xs _ c.loop-rank.yielded_by x c.next.new.self c.in-Some.ensures.steps in
     not-above-next xs x c.loop-rank.reached.before ranks.0 c.loop-rank.invariant.reached
 
+pub index_of-requires-clause-counted : goal.index_of-requires-clause-counted
+index_of-requires-clause-counted g c = words-counted _ c.loop-rank.invariant
+
 pub loop-rank-preserved : goal.loop-rank-preserved
 loop-rank-preserved g c =
-    found-more c.chunks-chunks.result c.loop-rank.yielded c.in-Some.rank _ _ _ c.index_of.new.steps.words c.index_of.new.self.word c.index_of.new.self.before
-    c.loop-rank.indices.items c.push.new.self.items c.index_of.result c.loop-rank.steps c.index_of.new.steps
+    found-more c.chunks-chunks.result c.loop-rank.yielded c.in-Some.rank _ _ _ c.index_of.new.self.words c.index_of.new.self.word c.index_of.new.self.before
+    c.loop-rank.indices.items c.push.new.self.items c.index_of.result (g.C.CountSteps.step_counts c.loop-rank.steps) (g.C.CountSteps.step_counts c.index_of.new.steps)
     c.loop-rank.invariant c.index_of.ensures.index c.index_of.ensures.read c.index_of.ensures.reached c.in_ok-push.ensures.items c.index_of.ensures.ticked
 
 pub of_indices-requires : goal.of_indices-requires
