@@ -2,6 +2,7 @@
 import collections
 import re
 
+from erasing import marks
 from erasing.tokens import Fault, Masked
 
 # Each crate's sources, where they go, and the path of that place's root.
@@ -40,10 +41,6 @@ for inside, kit in enumerate(["::row_mask::kit", "crate::kit"]):
 # What Rust has in `core`, by these names.
 CORE = {"std::fmt", "std::fmt::Debug", "std::fmt::Display", "std::mem", "std::mem::size_of_val"}
 SAME = {"std::process::ExitCode"}
-# Traits whose implementations have to be lawful, which no compiler sees.
-LAWFUL = ["DepositBits", "SelectBit", "ExtractBits"]
-# Modules that have one by hand in their place.
-REPLACED = {"mask_bits::processor": "crate::native::processor", "mask_bits::unchecked": "crate::kit::unchecked"}
 # What only the package's own calls do.
 QUICKEST = "the processor's deposits"
 # Tests of rows that calls by hand hand on to private functions may count what they are asked.
@@ -87,11 +84,8 @@ RULES = [
     ("modules", r"(?<![\w:])std::mem::", "::core::mem::"),
     ("`fmt`", r"fn fmt<W: fmt::Write>\(&self, f: &mut fmt::Formatter<W>\)", "fn fmt(&self, f: &mut fmt::Formatter<'_>)"),
     ("the program's handle", r"\b(e?println)!\(rt;\s*", r"crate::host::\1!(rt; "),
-    (QUICKEST, r"\b([\w:]+)::<Portable((?:, _)*)>\(([^()]*)\)", r"crate::native::quickest!(\1::<Portable\2>(\3))"),
-    (QUICKEST, r"\bPortable::(deposit_bits)\(([^()]*)\)", r"crate::native::quickest!(Portable::\1(\2))"),
     (CLOSURES, r"\bF: Fn(\(&T\) -> bool>\([^()]*\btest: &)F\b", r"F: FnMut\1mut F"),
-    (CLOSURES, r"(\bput_answers\([^()]*), &test\)", r"\1, &mut { test })"),
-    (QUICKEST, r"(?<!fn )\bdeposits_by_loop\(", "crate::native::by_loop("),
+    (CLOSURES, r", &test\)", ", &mut { test })"),
 ]
 LEFT = re.compile(r"\b(ghost|requires|ensures|tactic|Model|alloc|Global|laws|prove|unreachable_unchecked)\b|[^\x00-\x7f]")
 
@@ -120,17 +114,35 @@ def changed(crate, text, found, twins):
     masked = Masked(text)
     without_effect(masked.text)
     for rule, pattern, into in RULES:
-        if rule == QUICKEST and crate not in INSIDE:
-            continue
         into = into.replace("{kit}", KIT[crate]).replace("{root}", PLACES[crate][1])
         masked.text, count = re.subn(pattern, into, masked.text)
         found[rule][0] += count
     if crate in INSIDE:
-        masked.text = by_body(masked.text, twins, LAWFUL, found)
+        masked.text = by_body(by_instruction(masked.text, found), twins, marks.lawful(), found)
     if left := LEFT.search(masked.text):
         line = masked.text[: left.start()].count("\n")
         raise Fault(f"`{left[0]}` is left: {masked.text.splitlines()[line].strip()}")
     return masked.shown()
+
+
+def by_instruction(text, found):
+    """Has calls inside the package go to what is marked as quicker, or as standing in their place.
+
+    >>> by_instruction("f::<Portable, _>(a)", {QUICKEST: [0, 0]})
+    'crate::native::quickest!(f::<crate::native::Bmi2, _>(a), f::<Portable, _>(a))'
+    >>> by_instruction("Portable::g(a); deposits_by_loop(n)", {QUICKEST: [0, 0]})
+    'crate::native::quickest!(crate::native::Bmi2::g(a), Portable::g(a)); crate::native::by_loop(n)'
+    """
+    for name, there in marks.instead("struct", "by PDEP").items():
+        into = rf"crate::native::quickest!(\g<on>{there}\g<rest>, \g<on>{name}\g<rest>)"
+        of_type = rf"\b(?P<on>[\w:]+::<){name}(?P<rest>(?:, _)*>\([^()]*\))"
+        for call in (of_type, rf"\b(?P<on>){name}(?P<rest>::[a-z_]\w*\([^()]*\))"):
+            text, count = re.subn(call, into, text)
+            found[QUICKEST][0] += count
+    for name, there in marks.instead("fn", "replaced by").items():
+        text, count = re.subn(rf"(?<!fn )\b{name}\(", f"{there}(", text)
+        found[QUICKEST][0] += count
+    return text
 
 
 def by_body(text, twins, lawful, found):

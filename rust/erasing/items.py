@@ -4,13 +4,17 @@ import copy
 import re
 
 from erasing import marks
-from erasing.changes import CORE, ELSEWHERE, GONE, INSIDE, LAWFUL, PLACES, PROVED, REPLACED, SAME
+from erasing.changes import CORE, ELSEWHERE, GONE, INSIDE, PLACES, PROVED, SAME
 from erasing.conditions import TESTS, Condition
 from erasing.levels import by_pext, levelled
 from erasing.names import Names
 from erasing.tokens import Fault, attached, leaves, spaced
 
 GENERIC = r"(?:\s*<(?:[^<>]|<[^<>]*>|->)*>)?"
+# The marks that items of these kinds may have.
+MARKED = {
+    "fn": r"(?!by hand|lawful|by PDEP)", "mod": r"visible|replaced by", "impl": r"by hand", "trait": r"lawful", "struct": r"by PDEP",
+}
 DROP = re.compile(r"\s*\+\s*Drop\b|:\s*Drop\b")
 
 
@@ -140,7 +144,7 @@ class Erasure(Names):
             if form is None:
                 self.source.fault(j, f"no form for an item that begins with `{word}`")
             before, words = marks.taken(self.lead(lead, i))
-            if words and (word not in ("fn", "mod", "impl") or (word == "impl") != (words == ["by hand"])):
+            if any(not re.match(MARKED.get(word, "(?!)"), it) for it in words):
                 self.source.fault(j, f"no item of this kind has the mark `// rust: {words[0]}`")
             self.marks, self.marked = self.read(j, words), self.marked + len(words)
             made, i = form(i, j, end, context, before, attributes)
@@ -221,7 +225,7 @@ class Erasure(Names):
         self.see_module(j, name)
         if name == "laws":
             return self.taken("laws", i, last + 1, before)
-        if place := REPLACED.get(f"{self.crate}::{name}"):
+        if place := self.marks.instead.get("replaced by"):
             self.count("modules by hand")
             return f"{before}pub(crate) use {place};", last + 1
         if self.crate == "mask_c":
@@ -244,7 +248,7 @@ class Erasure(Names):
         # (with the type, so that two of one trait are told apart)
         context = ("impl", of) if by is None else ("trait impl", f"{of} for {by}")
         items = self.items(body + 1, last - 1, context)
-        is_lawful = by is not None and of in LAWFUL
+        is_lawful = by is not None and of in marks.lawful()
         quality = "// SAFETY: its answers are proved to be as the contract says.\nunsafe " if is_lawful else ""
         return f"{before}{quality}{DROP.sub('', head)}{{{items}}}", last
 
@@ -252,10 +256,10 @@ class Erasure(Names):
         self.see_type(j, end)
         body = self.source.find(j, end, ["{"])
         last = self.source.partner[body] + 1
-        name = self.source.word(j, end)
+        name, is_lawful = self.source.word(j, end), self.marks.has("lawful")
         head = DROP.sub("", self.source.text(i, body))
         items = self.items(body + 1, last - 1, ("trait", name))
-        if name in LAWFUL:
+        if is_lawful:
             self.count("lawful traits")
             before += "///\n/// # Safety\n///\n/// Each answer is as its contract says: a compiler can't see that.\n"
             head = re.sub(r"\btrait\b", "unsafe trait", head)

@@ -6,7 +6,6 @@ from erasing.marks import Marks
 
 # What x86-64-v3 has above plain x86-64, as far as loops gain by it.
 FEATURES = "avx2,bmi1,bmi2,f16c,fma,lzcnt,movbe,popcnt"
-PEXT = [(r"\b(extract|put_pairs)\(", r"crate::native::\1(")]
 
 
 def levelled(function, of, body, marked):
@@ -55,8 +54,8 @@ def inner(body):
 
 def by_pext(function, body, is_levelled):
     """A copy of a function that takes bits by the instruction."""
-    for pattern, into in PEXT:
-        body = re.sub(pattern, into, body)
+    for name, there in marks.instead("fn", "by PEXT").items():
+        body = re.sub(rf"\b{name}\(", f"{there}(", body)
     how = f'#[target_feature(enable = "{FEATURES}")]' if is_levelled else "#[inline(always)]"
     return f"""
 

@@ -12,12 +12,17 @@
 | `// rust: visible` | private functions and modules that calls by hand go to |
 | `// rust: inline` | inlined always: tests of places make it seem too long for that |
 | `// rust: by hand` | nothing of an implementation: the package has its own |
+| `// rust: lawful` | an `unsafe` trait: no compiler sees whether an implementation answers as the contract says |
+| `// rust: replaced by PATH` | of a module, and of the package's calls of a function: what stands at that path by hand |
+| `// rust: by PEXT PATH` | what stands at that path, in copies by PEXT |
+| `// rust: by PDEP PATH` | the type at that path where that instruction is quick, in the package's calls with this type |
 | `// rust: named NAME` | a method that has this name in public, since Rust's own has that of the source |
 | `// rust: needs TEXT` | what a call says that it needs where its condition is broken, in place of the condition in Rust |
 | `// rust: says TEXT` | what it says then: the text of the Rust crate. The two values stand at its `{}`, or behind it |
 | `.. NAME needs TEXT`, `.. NAME says TEXT` | the same of the condition with this name, of a call that has several |
 """
 import re
+from collections import namedtuple
 from functools import cache
 from pathlib import Path
 
@@ -28,8 +33,9 @@ LINE = re.compile(r"^[ \t]*// rust:(.*)\n", re.M)
 LEVEL = re.compile(r"(wide |shifted )?level(?: if (.+?))?( alone)?")
 TOLD = re.compile(r"(?:(\w+) )?(needs|says) (\S.*)")
 NAMED = re.compile(r"named (\w+)")
-OTHERS = ["called at its level", "copied by PEXT", "visible", "inline", "by hand"]
-HEAD = re.compile(r"^([ \t]*)(?:pub(?:\(\w+\))? )?(?:unsafe )?(?:extern \"C\" )?(fn|mod) (\w+)", re.M)
+INSTEAD = re.compile(r"(replaced by|by PEXT|by PDEP) ((?:\w+::)*\w+)")
+OTHERS = ["called at its level", "copied by PEXT", "visible", "inline", "by hand", "lawful"]
+HEAD = re.compile(r"^([ \t]*)(?:pub(?:\(\w+\))? )?(?:unsafe )?(?:extern \"C\" )?(fn|mod|struct|trait) (\w+)", re.M)
 
 
 class Marks:
@@ -42,6 +48,8 @@ class Marks:
     {'within': ('needs', '`a < b`'), None: ('says', 'No {} of {}')}
     >>> Marks(["named try_clone"]).named
     'try_clone'
+    >>> Marks(["replaced by native::by_loop"]).instead
+    {'replaced by': 'crate::native::by_loop'}
     >>> Marks(["levels"])
     Traceback (most recent call last):
     erasing.tokens.Fault: no mark is `// rust: levels`
@@ -54,6 +62,8 @@ class Marks:
         self.others = set()
         # what is said where a condition is broken, by the condition's name
         self.told = {}
+        # what stands by hand in the item's place, by the words before its path
+        self.instead = {}
         for it in words:
             match, told = LEVEL.fullmatch(it), TOLD.fullmatch(it)
             if told and told[1] not in self.told:
@@ -63,6 +73,8 @@ class Marks:
                 self.much, self.alone = match[2], bool(match[3])
             elif (match := NAMED.fullmatch(it)) and self.named is None:
                 self.named = match[1]
+            elif (match := INSTEAD.fullmatch(it)) and match[1] not in self.instead:
+                self.instead[match[1]] = f"crate::{match[2]}"
             elif it in OTHERS and it not in self.others:
                 self.others.add(it)
             else:
@@ -81,9 +93,14 @@ def taken(lead):
     return LINE.sub("", lead), [it.strip() for it in LINE.findall(lead)]
 
 
+class Marked(namedtuple("Marked", "kind crate name at marks")):
+    """A marked item: whether it is an `fn`, a `mod`, a `struct` or a `trait`, its crate, its name, what stands before that in
+    its path in what is made (nothing of a method), and its marks."""
+
+
 @cache
 def of_all():
-    """The marked functions of all sources: the name of each, its path in what is made, and its marks."""
+    """The marked items of all sources, but for implementations."""
     found = []
     for crate in ("mask_bits", "vortex_mask", "mask_c"):
         folder = CRATES / crate / "src"
@@ -92,36 +109,60 @@ def of_all():
             place = "::".join(it for it in path.relative_to(folder).with_suffix("").parts if it != "lib")
             for head in HEAD.finditer(text):
                 above = re.search(r"(?:^[ \t]*(?://|#\[).*\n)*\Z", text[: head.start()], re.M)[0]
-                if (marks := taken(above)[1]) and head[2] == "fn":
+                if marks := taken(above)[1]:
                     at = "" if head[1] else f"crate::proved::{crate}::{place}::"
-                    found.append((head[3], at, Marks(marks)))
+                    found.append(Marked(head[2], crate, head[3], at, Marks(marks)))
     return found
+
+
+def functions():
+    """The marked functions."""
+    return [it for it in of_all() if it.kind == "fn"]
 
 
 def named(word):
     """The names of the functions with a mark."""
-    return {name for name, _, marks in of_all() if marks.has(word)}
+    return {it.name for it in functions() if it.marks.has(word)}
+
+
+@cache
+def lawful():
+    """The names of the traits whose implementations have to be lawful."""
+    return {it.name for it in of_all() if it.kind == "trait" and it.marks.has("lawful")}
+
+
+@cache
+def instead(kind, words):
+    """What stands by hand in the places of items of a kind, by their names."""
+    return {it.name: it.marks.instead[words] for it in of_all() if it.kind == kind and words in it.marks.instead}
+
+
+@cache
+def modules_by_hand():
+    """The modules in whose places others stand by hand, by their paths in the sources."""
+    own = (it for it in of_all() if it.kind == "mod" and "replaced by" in it.marks.instead)
+    return {f"{it.crate}::{it.name}": it.marks.instead["replaced by"] for it in own}
 
 
 @cache
 def public():
     """The public names of methods that have another one there, by their own."""
-    return {name: marks.named for name, _, marks in of_all() if marks.named}
+    return {it.name: it.marks.named for it in functions() if it.marks.named}
 
 
 @cache
 def inner():
     """The functions that levelled ones go on to at their own level, each with that copy's path."""
-    return {name: f"{at}{name}_any" for name, at, marks in of_all() if marks.has("called at its level")}
+    return {it.name: f"{it.at}{it.name}_any" for it in functions() if it.marks.has("called at its level")}
 
 
 @cache
 def much():
     """The conditions of levels, by the names of their functions."""
-    return {name: marks.much for name, _, marks in of_all() if marks.much}
+    return {it.name: it.marks.much for it in functions() if it.marks.much}
 
 
 @cache
 def roots():
     """The copies into which all that they call is inlined."""
-    return {f"{name}_any" for name, _, marks in of_all() if marks.level and not marks.alone}
+    return {f"{it.name}_any" for it in functions() if it.marks.level and not it.marks.alone}

@@ -3,7 +3,8 @@ tell which call is meant, as they do in a source. What would be taken for anothe
 import copy
 import re
 
-from erasing.changes import INSIDE, LAWFUL, OF_POINTERS, PROVED, RENAMED, RUSTS_OWN
+from erasing import marks
+from erasing.changes import INSIDE, OF_POINTERS, PROVED, RENAMED, RUSTS_OWN
 from erasing.tokens import Fault
 
 
@@ -110,7 +111,7 @@ class Names:
         if self.crate not in INSIDE or kind == "file" or (of.partition(" for ")[0], function.name) in self.known:
             return False
         others = [it for it, name in self.known if name == function.name]
-        return bool(others) and (function.is_method() or any(it in LAWFUL for it in others))
+        return bool(others) and (function.is_method() or any(it in marks.lawful() for it in others))
 
     def by_types(self, function, context, before, body, more):
         """The body of a method that is named as a call with conditions goes to a method with that one's other name."""

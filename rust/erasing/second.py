@@ -4,7 +4,6 @@ the other side, and then both are one list of tokens. Commas and imports are not
 import re
 
 from erasing import marks
-from erasing.changes import LAWFUL
 from erasing.tokens import CLOSING, OPENING, TOKEN, Fault, spaced
 
 # Words of a source that have another name in what was made of it.
@@ -57,7 +56,8 @@ SAME = [
     (r"vec ! \[ ([^;\]]*) ; ([^\]]*) \]", r"filled ( \1 \2 )"),
     (r"fn fmt < W : fmt :: Write > \( & self f : & mut fmt :: Formatter < W > \)",
      "fn fmt ( & self f : & mut fmt :: Formatter < '_ > )"),
-    (r"quickest ! \( ((?:\w+ :: )*(?:< Portable (?:_ )*>|deposit_bits) \( [^()]* \)) \)", r"\1"),
+    (r"quickest ! \( ((?:\w+ :: )+< )Bmi2 ((?:_ )*> \( [^()]* \)) (\1Portable \2) \)", r"\3"),
+    (r"quickest ! \( Bmi2 (:: \w+ \( [^()]* \)) (Portable \1) \)", r"\2"),
     (r"FnMut \( & T \) -> bool", "Fn ( & T ) -> bool"),
     (r"test : & mut F", "test : & F"),
     (r"& mut \{ test \}", "& test"),

@@ -64,6 +64,7 @@ pub fn put_chosen(masks: &BitChunks<'_>, values: &BitChunks<'_>, out: &mut [u8])
 }
 
 // The same by pairs of whole words.
+// rust: by PEXT native::put_pairs
 fn put_pairs(masks: &BitChunks<'_>, values: &BitChunks<'_>, out: &mut [u8]) -> LastChosen
     requires fits { length masks.now < 2 ^ 64 }
     requires fitting { length values.now ≡ length masks.now }

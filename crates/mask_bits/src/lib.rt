@@ -27,6 +27,7 @@ pub mod extract;
 // rust: visible
 mod from_rows;
 pub mod laws;
+// rust: replaced by native::processor
 #[doc(hidden)]
 pub mod processor;
 #[doc(hidden)]
@@ -40,6 +41,7 @@ mod set_indices;
 mod set_slices;
 #[doc(hidden)]
 pub mod small_rows;
+// rust: replaced by kit::unchecked
 #[doc(hidden)]
 pub mod unchecked;
 mod word_indices;

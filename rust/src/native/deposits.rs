@@ -6,32 +6,8 @@ use crate::proved::vortex_mask::intersect_by_rank::deposits_by_loop;
 #[cfg(target_arch = "x86_64")]
 use crate::proved::vortex_mask::intersect_by_rank::{DepositBits, SelectBit};
 
-/// Deposits by PDEP where that is quick, and else as the sources do.
+/// The first of two calls where PDEP is quick, by which it deposits, and else the second.
 macro_rules! quickest {
-    (Portable::$call:ident($($argument:expr),* $(,)?)) => {
-        crate::native::quickest!(
-            <crate::native::Bmi2 as DepositBits>::$call($($argument),*),
-            Portable::$call($($argument),*)
-        )
-    };
-    ($($call:ident::)+<Portable $(,)?>($($argument:expr),* $(,)?)) => {
-        crate::native::quickest!(
-            $($call::)+<crate::native::Bmi2>($($argument),*),
-            $($call::)+<Portable>($($argument),*)
-        )
-    };
-    ($($call:ident::)+<Portable, _>($($argument:expr),* $(,)?)) => {
-        crate::native::quickest!(
-            $($call::)+<crate::native::Bmi2, _>($($argument),*),
-            $($call::)+<Portable, _>($($argument),*)
-        )
-    };
-    ($($call:ident::)+<Portable, _, _>($($argument:expr),* $(,)?)) => {
-        crate::native::quickest!(
-            $($call::)+<crate::native::Bmi2, _, _>($($argument),*),
-            $($call::)+<Portable, _, _>($($argument),*)
-        )
-    };
     ($by_pdep:expr, $as_it_is:expr) => {{
         #[cfg(target_arch = "x86_64")]
         let result = if crate::native::has_quick_bits() { $by_pdep } else { $as_it_is };

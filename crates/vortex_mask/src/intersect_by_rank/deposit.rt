@@ -14,6 +14,7 @@ pub(super) use bytewise::{counts_below, words_of};
 use nibbles::deposit_two_by_nibbles;
 
 /// Scatters the low bits of a word to the set bits of a mask word, as the instruction PDEP does.
+// rust: lawful
 pub trait DepositBits {
     /// The word whose bit `i` is set exactly where bit `i` of `mask` is and so is the bit of
     /// `source` whose number is the count of mask bits below `i`. So the set places of `mask`
@@ -49,6 +50,7 @@ const FEW: usize = 2;
 /// Deposits in few steps at every mask: by a closed form where at most two bits of the mask are
 /// set or clear, and by the network between, unless the source is zero. Two words at once take closed
 /// forms where both masks allow them, and else tables of their nibbles, unless both sources are zero.
+// rust: by PDEP native::Bmi2
 pub struct Portable;
 
 impl DepositBits for Portable {
@@ -123,6 +125,7 @@ const VALUES_PER_TRUE_BY_LOOP: u64 = 16;
 
 /// Whether a word kernel over `len` values, of which `true_count` are true, deposits by `PortableLoop`:
 /// where fewer than one in 16 is. Else it deposits by `Portable`.
+// rust: replaced by native::by_loop
 pub fn deposits_by_loop(len: usize, true_count: usize) -> bool
     ensures { result ≡ is_deposited_by_loop len true_count }
 {

@@ -10,6 +10,7 @@ use mask_bits::extract::extract;
 
 /// Gathers the bits of a word at the set places of a mask word, as the instruction PEXT does: the way
 /// back of a deposit.
+// rust: lawful
 pub trait ExtractBits {
     /// The word whose bit `k` is the bit of `source` at set place number `k` of `mask`, counted from
     /// the lowest, for each `k` below `mask_count`, and whose other bits are 0.

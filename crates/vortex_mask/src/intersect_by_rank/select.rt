@@ -22,6 +22,7 @@ use mask_bits::byte_places::place_in_byte;
 use std::simd::prelude::*;
 
 /// A way to find a set bit of a word by its number.
+// rust: lawful
 pub trait SelectBit {
     /// The place of set bit number `rank`, counted from 0 at the lowest.
     fn select_bit_position(word: u64, rank: usize) -> usize

@@ -41,7 +41,10 @@ pub fn row_mask_intersect_by_rank(
     let source = word_at(ranks, ranks_offset + before);
     put_remainder(
         out,
-        crate::native::quickest!(Portable::deposit_bits_proved(source, word, ones)),
+        crate::native::quickest!(
+            crate::native::Bmi2::deposit_bits_proved(source, word, ones),
+            Portable::deposit_bits_proved(source, word, ones)
+        ),
         len,
     );
 }
@@ -72,6 +75,9 @@ fn narrow_whole_v3(chunks: &BitChunks<'_>, ranks: &RankBits<'_>, are_few: bool, 
 fn narrow_whole_any(chunks: &BitChunks<'_>, ranks: &RankBits<'_>, are_few: bool, out: &mut [u8]) {
     if !are_few {
         crate::native::quickest!(
+            crate::proved::vortex_mask::intersect_by_rank::kernels::bit_buffers::narrow_by_bits_any::<
+                crate::native::Bmi2,
+            >(chunks, ranks, out),
             crate::proved::vortex_mask::intersect_by_rank::kernels::bit_buffers::narrow_by_bits_any::<
                 Portable,
             >(chunks, ranks, out)
@@ -113,7 +119,10 @@ pub fn row_mask_intersect_at_ranks(
     if crate::native::by_loop(len, true_count) {
         narrow_at::<PortableLoop>(bytes, offset, len, true_count, ranks, out);
     } else {
-        crate::native::quickest!(narrow_at::<Portable>(bytes, offset, len, true_count, ranks, out));
+        crate::native::quickest!(
+            narrow_at::<crate::native::Bmi2>(bytes, offset, len, true_count, ranks, out),
+            narrow_at::<Portable>(bytes, offset, len, true_count, ranks, out)
+        );
     }
 }
 

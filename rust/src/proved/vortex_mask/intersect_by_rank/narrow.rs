@@ -30,9 +30,10 @@ pub(super) fn narrow_by_path<C: CountSteps>(
             intersect_bit_buffers_with::<PortableLoop, _>(buffer, bits, true_count)
         }
         RankPath::BitBuffers => {
-            crate::native::quickest!(intersect_bit_buffers_with::<Portable, _>(
-                buffer, bits, true_count
-            ))
+            crate::native::quickest!(
+                intersect_bit_buffers_with::<crate::native::Bmi2, _>(buffer, bits, true_count),
+                intersect_bit_buffers_with::<Portable, _>(buffer, bits, true_count)
+            )
         }
         RankPath::RankIndices if by_loop => {
             let indices = ranks.cached_indices().unwrap();
@@ -40,9 +41,12 @@ pub(super) fn narrow_by_path<C: CountSteps>(
         }
         RankPath::RankIndices => {
             let indices = ranks.cached_indices().unwrap();
-            crate::native::quickest!(intersect_bit_buffer_by_rank_indices_with::<Portable, _>(
-                buffer, indices
-            ))
+            crate::native::quickest!(
+                intersect_bit_buffer_by_rank_indices_with::<crate::native::Bmi2, _>(
+                    buffer, indices
+                ),
+                intersect_bit_buffer_by_rank_indices_with::<Portable, _>(buffer, indices)
+            )
         }
     }
 }
@@ -76,15 +80,17 @@ fn by_selections<C: CountSteps>(
     match ranks.cached_indices() {
         Some(cached) => {
             let ranks = cached.iter().copied();
-            crate::native::quickest!(intersect_mask_driven_with::<Portable, _, _>(
-                buffer, ranks, true_count
-            ))
+            crate::native::quickest!(
+                intersect_mask_driven_with::<crate::native::Bmi2, _, _>(buffer, ranks, true_count),
+                intersect_mask_driven_with::<Portable, _, _>(buffer, ranks, true_count)
+            )
         }
         None => {
             let ranks = ranks.bit_buffer().set_indices();
-            crate::native::quickest!(intersect_mask_driven_with::<Portable, _, _>(
-                buffer, ranks, true_count
-            ))
+            crate::native::quickest!(
+                intersect_mask_driven_with::<crate::native::Bmi2, _, _>(buffer, ranks, true_count),
+                intersect_mask_driven_with::<Portable, _, _>(buffer, ranks, true_count)
+            )
         }
     }
 }
