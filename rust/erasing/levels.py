@@ -3,6 +3,7 @@ import re
 
 from erasing import marks
 from erasing.marks import Marks
+from erasing.tokens import TOKEN
 
 # What x86-64-v3 has above plain x86-64, as far as loops gain by it.
 FEATURES = "avx2,bmi1,bmi2,f16c,fma,lzcnt,movbe,popcnt"
@@ -71,9 +72,10 @@ FN = re.compile(r"\bfn (\w+)")
 def called(text):
     """The names that each function of a text calls, by its name.
 
-    >>> sorted(called("fn f(a: u8) { g(a); a.h::<u8>() } fn g(a: u8) {}")["f"])
+    >>> sorted(called("fn f(a: u8) { g(a); a.h::<u8>() } /// Asks for `k(1)`.\\nfn g(a: u8) {}")["f"])
     ['g', 'h']
     """
+    text = "".join(m[0] for m in TOKEN.finditer(text) if m.lastgroup != "comment")
     found = {}
     heads = list(FN.finditer(text))
     for head, behind in zip(heads, [*heads[1:], None]):

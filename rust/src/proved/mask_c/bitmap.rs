@@ -10,7 +10,7 @@ pub fn row_mask_is_within(bytes: &[u8], offset: usize, len: usize) -> bool {
 
 /// How many bytes a bitmap of `len` values takes from bit 0 on: `(len + 7) / 8`, which this call
 /// computes without a sum that could wrap.
-#[inline(always)]
+#[inline]
 pub fn row_mask_room(len: usize) -> usize {
     len.div_ceil(8)
 }
