@@ -118,28 +118,31 @@ def changed(crate, text, found, twins):
         masked.text, count = re.subn(pattern, into, masked.text)
         found[rule][0] += count
     if crate in INSIDE:
-        masked.text = by_body(by_instruction(masked.text, found), twins, marks.lawful(), found)
+        by_pdep, replaced = marks.instead("struct", "by PDEP"), marks.instead("fn", "replaced by")
+        masked.text = by_instruction(masked.text, by_pdep, replaced, found)
+        masked.text = by_body(masked.text, twins, marks.lawful(), found)
     if left := LEFT.search(masked.text):
         line = masked.text[: left.start()].count("\n")
         raise Fault(f"`{left[0]}` is left: {masked.text.splitlines()[line].strip()}")
     return masked.shown()
 
 
-def by_instruction(text, found):
+def by_instruction(text, by_pdep, replaced, found):
     """Has calls inside the package go to what is marked as quicker, or as standing in their place.
 
-    >>> by_instruction("f::<Portable, _>(a)", {QUICKEST: [0, 0]})
-    'crate::native::quickest!(f::<crate::native::Bmi2, _>(a), f::<Portable, _>(a))'
-    >>> by_instruction("Portable::g(a); deposits_by_loop(n)", {QUICKEST: [0, 0]})
-    'crate::native::quickest!(crate::native::Bmi2::g(a), Portable::g(a)); crate::native::by_loop(n)'
+    >>> made = lambda text: by_instruction(text, {"A": "native::B"}, {"f": "native::g"}, {QUICKEST: [0, 0]})
+    >>> made("h::<A, _>(a)"), made("A::h(a)")
+    ('crate::native::quickest!(h::<native::B, _>(a), h::<A, _>(a))', 'crate::native::quickest!(native::B::h(a), A::h(a))')
+    >>> made("fn f(n: u8) { f(n); a.f }")
+    'fn f(n: u8) { native::g(n); a.f }'
     """
-    for name, there in marks.instead("struct", "by PDEP").items():
+    for name, there in by_pdep.items():
         into = rf"crate::native::quickest!(\g<on>{there}\g<rest>, \g<on>{name}\g<rest>)"
         of_type = rf"\b(?P<on>[\w:]+::<){name}(?P<rest>(?:, _)*>\([^()]*\))"
         for call in (of_type, rf"\b(?P<on>){name}(?P<rest>::[a-z_]\w*\([^()]*\))"):
             text, count = re.subn(call, into, text)
             found[QUICKEST][0] += count
-    for name, there in marks.instead("fn", "replaced by").items():
+    for name, there in replaced.items():
         text, count = re.subn(rf"(?<!fn )\b{name}\(", f"{there}(", text)
         found[QUICKEST][0] += count
     return text
