@@ -13,7 +13,7 @@ use core::ops::{Bound, Range, RangeBounds};
 #[cfg(target_endian = "little")]
 use core::slice;
 
-mod alike;
+pub(crate) mod alike;
 mod choose;
 mod pairs;
 pub(crate) mod read;

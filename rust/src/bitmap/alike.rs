@@ -7,8 +7,8 @@ use alloc::string::String;
 use core::fmt;
 use core::ops::Not;
 
-// As many values are printed of a bitmap that may have millions.
-const PRINTED: usize = 64;
+// As many values, indices or runs are printed of what may have millions.
+pub(crate) const PRINTED: usize = 64;
 
 /// `1` for each true value and `0` for each false one, in their order. They are a text first, which takes a
 /// byte for each value: where there is no memory for that, the process ends.

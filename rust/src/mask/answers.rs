@@ -1,5 +1,6 @@
 //! What small values have that the proved sources don't derive.
 
+use crate::bitmap::alike::PRINTED;
 use crate::intersect_by_rank::RankPath;
 use crate::proved::mask_bits::BitBuffer;
 use crate::proved::vortex_mask::{AllOr, Fraction, MaskError, MaskIter};
@@ -56,9 +57,6 @@ impl Clone for MaskIter<'_> {
 }
 
 impl Copy for MaskIter<'_> {}
-
-// As many values, indices or runs are printed of a list that may have millions.
-const PRINTED: usize = 64;
 
 /// The values, or of more than 64 the first of them and the length.
 impl fmt::Debug for BitBuffer {
