@@ -99,3 +99,9 @@ fn long_lists_are_told_by_their_first_items() {
     let lent = mask.threshold_iter(1, 1).unwrap();
     assert_eq!(format!("{lent:?}"), format!("Some(Indices({all:?}))"));
 }
+
+#[test]
+fn all_and_none_take_the_closures_of_their_names() {
+    let answers = [AllOr::All, AllOr::None, AllOr::Some(3)];
+    assert_eq!(answers.map(|it| it.unwrap_or_else(|| 1, || 2)), [1, 2, 3]);
+}
