@@ -64,6 +64,7 @@ PROVED = "_proved"
 OF_POINTERS = "as_mut as_ref borrow borrow_mut clone cmp eq fmt ge gt hash into le lt max min ne partial_cmp to_string".split()
 LISTS = "lists and texts"
 CALLS = "calls inside the package"
+PUBLIC = "calls of programs by public names"
 RULES = [
     ("the allocator", r",\s*\$alloc(:ident)?", ""),
     ("the allocator", r"let \$alloc = \$o\.alloc;", ""),
@@ -109,8 +110,8 @@ def without_effect(text):
             raise Fault(f"`{it[0]}` may do something")
 
 
-def changed(crate, text, found, twins):
-    """The text by all rules, with calls of those that have the body."""
+def changed(crate, text, found, twins, names=()):
+    """The text by all rules, with calls of those that have the body, or in programs by their public names."""
     masked = Masked(text)
     without_effect(masked.text)
     for rule, pattern, into in RULES:
@@ -121,6 +122,8 @@ def changed(crate, text, found, twins):
         by_pdep, replaced = marks.instead("struct", "by PDEP"), marks.instead("fn", "replaced by")
         masked.text = by_instruction(masked.text, by_pdep, replaced, found)
         masked.text = by_body(masked.text, twins, marks.lawful(), found)
+    else:
+        masked.text = by_public_name(masked.text, dict(names), found)
     if left := LEFT.search(masked.text):
         line = masked.text[: left.start()].count("\n")
         raise Fault(f"`{left[0]}` is left: {masked.text.splitlines()[line].strip()}")
@@ -166,6 +169,20 @@ def by_body(text, twins, lawful, found):
         return match[0].replace(name, name + PROVED, 1) if fits else match[0]
 
     return re.sub(r"(?P<on>(?<!\.)\.|\b[A-Z]\w*::)(?P<name>\w+)(::<[^()]*?>)?\(", renamed, text)
+
+
+def by_public_name(text, names, found):
+    """Has calls of programs go to methods by their public names: by a type's path where that type has it, and a method's call
+    always, since all public methods of one name in the sources have one public name."""
+    methods = {name: public for (_, name), public in names.items()}
+
+    def renamed(match):
+        on, name = match["on"], match["name"]
+        public = methods.get(name) if on == "." else names.get((on.removesuffix("::"), name))
+        found[PUBLIC][0] += public is not None
+        return f"{on}{public or name}{match['behind']}"
+
+    return re.sub(r"(?P<on>(?<!\.)\.|\b[A-Z]\w*::)(?P<name>\w+)(?P<behind>(?:::<[^()]*?>)?\()", renamed, text)
 
 
 class Counts(collections.defaultdict):

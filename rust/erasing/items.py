@@ -7,13 +7,13 @@ from erasing import marks
 from erasing.changes import CORE, ELSEWHERE, GONE, INSIDE, PLACES, PROVED, SAME
 from erasing.conditions import TESTS, Condition
 from erasing.levels import by_pext, levelled
-from erasing.names import Names
+from erasing.names import KEPT, Names
 from erasing.tokens import Fault, attached, leaves, spaced
 
 GENERIC = r"(?:\s*<(?:[^<>]|<[^<>]*>|->)*>)?"
 # The marks that items of these kinds may have.
 MARKED = {
-    "fn": r"(?!by hand|lawful|by PDEP)", "mod": r"visible|replaced by", "impl": r"by hand", "trait": r"lawful", "struct": r"by PDEP",
+    "fn": r"(?!lawful|by PDEP)", "mod": r"visible|replaced by", "impl": r"by hand", "trait": r"lawful", "struct": r"by PDEP",
 }
 DROP = re.compile(r"\s*\+\s*Drop\b|:\s*Drop\b")
 
@@ -108,6 +108,8 @@ class Erasure(Names):
         self.twins, self.known = twins, known
         # names of types that are defined here
         self.types = []
+        # the methods, and those of which another name is the public one, with that
+        self.methods, self.names = [], {}
         # places and lines, by rule
         self.counts = counts
         # functions that test conditions, of those that are no methods
@@ -284,6 +286,10 @@ class Erasure(Names):
         """The fields of a struct, or the variants of an enum."""
         out, tokens = "", self.source.tokens
         while i < end:
+            if tokens[i][1] == "// rust: visible":
+                self.marked += 1
+                self.count("private fields")
+                out, i = out + "pub(crate) ", self.source.next(i, end)
             if tokens[i] == ("word", "ghost"):
                 last = self.source.find(i, end, [","]) + 1
                 at = out.rfind(",") + 1
@@ -389,9 +395,20 @@ impl ::core::error::Error for {name} {{}}
             last = self.source.partner[last]
         kind, of = context
         where = function.name if of is None else f"{of}::{function.name}"
-        marked, more_names = self.marks, ""
+        marked, more_names, public = self.marks, "", None
+        if kind != "file":
+            self.methods.append((kind, of, function.name))
         if marked.named:
-            function, more_names = self.named(j, function, context, clauses)
+            self.see_public_name(j, function, context)
+            if function.name in KEPT:
+                function, more_names = self.kept_name(j, function, context, clauses)
+            else:
+                public = marked.named
+        public = public or function.name
+        if marked.has("by hand"):
+            if kind != "impl":
+                self.source.fault(j, "only a method of an `impl` can be one by hand")
+            return self.taken("what is by hand", i, last + 1, before)
         self.see_name(j, function, context)
         if self.is_visible():
             self.count("private functions")
@@ -420,10 +437,10 @@ impl ::core::error::Error for {name} {{}}
         tests = [f"{TESTS}::{it};" for it in tests.values()]
         if lists := lists_first(body, listed):
             body = body[:lists] + "\n" + "\n".join(tests) + body[lists:]
-            return f"{before}#[track_caller]\n{inline}{self.widened(function, body)}{levels}", last + 1
+            return f"{before}#[track_caller]\n{inline}{self.widened(function, body, public)}{levels}", last + 1
         before += inline
-        if tests:
-            return self.with_tests(function, tests, listed, context, before, body) + levels, last + 1
+        if tests or public != function.name:
+            return self.with_tests(function, public, tests, listed, context, before, body) + levels, last + 1
         body, levels = self.by_types(function, context, before, body, levels)
         return before + self.widened(function, body) + levels, last + 1
 
@@ -442,13 +459,13 @@ impl ::core::error::Error for {name} {{}}
         self.count("inlining")
         return before, "#[inline(always)]\n" if self.marks.has("inline") else "#[inline]\n"
 
-    def widened(self, function, body):
+    def widened(self, function, body, public=None):
         """A public function, which takes all that can be gone through where the source takes an iterator."""
         iterators = list(function.iterators())
         if iterators:
             self.count("iterators")
             body = "{" + "".join(f"let {it} = {it}.into_iter();" for it in iterators) + body[1:]
-        return function.signature(widened=True) + " " + body
+        return function.signature(public, widened=True) + " " + body
 
     def is_public(self, function, context):
         kind, of = context
@@ -495,20 +512,22 @@ impl ::core::error::Error for {name} {{}}
             raise Fault(f"{self.source.name}: {where} has no condition for the mark `{' '.join([*filter(None, [name]), *mark])}`")
         return tests, list(dict.fromkeys(listed))
 
-    def with_tests(self, function, tests, listed, context, before, body):
-        """A function that tests what its caller owes, and one that has the body."""
+    def with_tests(self, function, public, tests, listed, context, before, body):
+        """A function that tests what its caller owes, under its public name, and one that has the body."""
         kind, of = context
         attributes = "".join(f"{it}\n" for it in before.splitlines() if it.strip().startswith("#["))
         docs = "\n".join(it for it in before.splitlines() if not it.strip().startswith("#["))
         lists = [f"let {it} = crate::kit::Collect::try_collected({it}.into_iter())?;" for it in listed]
-        head = f"\n{docs}\n#[inline]\n#[track_caller]\n{function.signature(widened=True)}"
+        tracked = "#[track_caller]\n" if tests else ""
+        head = f"\n{docs}\n#[inline]\n{tracked}{function.signature(public, widened=True)}"
         if kind == "file":
             call = function.call(f"inner::{function.name}", None, listed)
             self.tested.append(f"{head} {{\n{' '.join([*lists, *tests, call])}\n}}\n")
             return f"\n\n{attributes}{function.signature()} {body}"
         self.twins.add((of, function.name))
         name = function.name + PROVED
-        call = function.call(name, "Self" if kind == "trait" else of, listed)
+        handed = list(dict.fromkeys([*listed, *function.iterators()]))
+        call = function.call(name, "Self" if kind == "trait" else of, handed)
         quality = "" if kind == "trait" else "pub(crate) "
         hidden = "/// The same, where the caller meets the conditions: else the answer is any, or a panic.\n" if kind == "trait" else ""
         twin = f"{hidden}{attributes}{function.signature(name, quality)} {body}"

@@ -9,14 +9,15 @@
 | `.. alone` | what it calls isn't inlined always |
 | `// rust: called at its level` | a levelled function goes on to the copy of its own level |
 | `// rust: copied by PEXT` | a copy in which that instruction stands in the place of `extract` |
-| `// rust: visible` | private functions and modules that calls by hand go to |
+| `// rust: visible` | private functions, modules and fields that calls by hand go to |
 | `// rust: inline` | inlined always: tests of places make it seem too long for that |
-| `// rust: by hand` | nothing of an implementation: the package has its own |
+| `// rust: by hand` | nothing of an implementation or a method: the package has its own |
 | `// rust: lawful` | an `unsafe` trait: no compiler sees whether an implementation answers as the contract says |
 | `// rust: replaced by PATH` | of a module, and of the package's calls of a function: what stands at that path by hand |
 | `// rust: by PEXT PATH` | what stands at that path, in copies by PEXT |
 | `// rust: by PDEP PATH` | the type at that path where that instruction is quick, in the package's calls with this type |
-| `// rust: named NAME` | a method that has this name in public, since Rust's own has that of the source |
+| `// rust: named NAME` | a method that has this name in public, since another has that of the source there: Rust's own, or \
+one by hand that returns no `Result` |
 | `// rust: needs TEXT` | what a call says that it needs where its condition is broken, in place of the condition in Rust |
 | `// rust: says TEXT` | what it says then: the text of the Rust crate. The two values stand at its `{}`, or behind it |
 | `.. NAME needs TEXT`, `.. NAME says TEXT` | the same of the condition with this name, of a call that has several |

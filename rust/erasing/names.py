@@ -7,6 +7,9 @@ from erasing import marks
 from erasing.changes import INSIDE, OF_POINTERS, PROVED, RENAMED, RUSTS_OWN
 from erasing.tokens import Fault
 
+# Names that Rust's own types have too, so that the package's own calls keep them.
+KEPT = {*OF_POINTERS, *RENAMED}
+
 
 class Names:
     """What an erasure does about names, and which it refuses.
@@ -52,7 +55,18 @@ class Names:
     'impl A { pub fn add(&mut self) {} #[inline(always)] pub(crate) fn try_push(&mut self) { self.add() } }'
     >>> made("impl A {\\n// rust: named add\\nfn push(&mut self) {} }", public=["A"])
     Traceback (most recent call last):
-    erasing.tokens.Fault: source:3: only a public method without conditions can have another name
+    erasing.tokens.Fault: source:3: only a public method can have another name
+
+    Where the name of the source isn't one of Rust's lists or pointers, it is left to a method by hand. The package's own calls
+    go to what has the body, and programs call the public one.
+
+    >>> made("impl A {\\n// rust: named try_cut\\npub fn cut<I: Iterator<Item = u8>>(it: I) -> bool { f(it) } }", public=["A"])
+    'impl A { pub fn try_cut<I: IntoIterator<Item = u8>>(it: I) -> bool { A::cut_proved::<_>(it.into_iter()) } \
+pub(crate) fn cut_proved<I: Iterator<Item = u8>>(it: I) -> bool { f(it) } }'
+    >>> made("impl A {\\n// rust: named try_cut\\n// rust: by hand\\npub fn cut(&self) {} fn g() {} }", public=["A"])
+    'impl A { fn g() {} }'
+    >>> changed("maskrun", "a.cut(1); A::cut(1); B::cut(1); a.cut; f::cut(1)", Counts(), set(), {("A", "cut"): "try_cut"})
+    'a.try_cut(1); A::try_cut(1); B::cut(1); a.cut; f::cut(1)'
 
     What a call might be taken for is refused.
 
@@ -79,12 +93,20 @@ class Names:
     erasing.tokens.Fault: source:1: `push` is renamed, and a macro may make another call of it
     """
 
-    def named(self, j, function, context, clauses):
+    def see_public_name(self, j, function, context):
+        """Notes the public name of a method that has another one here."""
+        kind, of = context
+        if kind != "impl" or not self.is_public(function, context):
+            self.source.fault(j, "only a public method can have another name")
+        self.count("public names")
+        if function.name not in KEPT:
+            self.names[of, function.name] = self.marks.named
+
+    def kept_name(self, j, function, context, clauses):
         """The function under its public name, and a call of it under its own one, which only the package has."""
         kind, of = context
-        if kind != "impl" or not self.is_public(function, context) or any(it[0] == "requires" for it in clauses):
-            self.source.fault(j, "only a public method without conditions can have another name")
-        self.count("public names")
+        if any(it[0] == "requires" for it in clauses):
+            self.source.fault(j, f"a call with conditions has the name `{function.name}` of Rust's own")
         public = copy.copy(function)
         public.name = self.marks.named
         body = f"{{ {public.call(public.name, of, [])} }}"
@@ -148,6 +170,34 @@ class Names:
             word = self.source.tokens[k][1]
             if word in RENAMED and not re.search(r"(\.|::|\bfn)\s*\Z", self.source.text(max(i, k - 3), k)):
                 self.source.fault(k, f"`{word}` is renamed, and a macro may make another call of it")
+
+
+def alike(names, inside, of_programs=()):
+    """Refuses public names by which a program's call could go to another method than in the source. Methods are known by their
+    kinds, types and names. (Where a type has no method of a name, the compiler says so.)
+
+    >>> names = {("A", "set"): "try_set", ("B", "set"): "try_set"}
+    >>> alike(names, [("impl", it, "set") for it in "ABC"], [("impl", "D", "try_set")])
+    >>> alike(names, [], [("impl", "D", "set")])
+    Traceback (most recent call last):
+    erasing.tokens.Fault: `D::set` of a program has the name of `A::set`, which programs call `try_set`
+    >>> alike(names, [], [("trait", "T", "try_set")])
+    Traceback (most recent call last):
+    erasing.tokens.Fault: `A::set` is named `try_set`, as `T::try_set` is in the sources
+    >>> alike({("A", "set"): "put", ("B", "set"): "place"}, [])
+    Traceback (most recent call last):
+    erasing.tokens.Fault: `B::set` is named `place`, and programs call it `put`, as `A::set`
+    """
+    first, own = {}, {name: of for _, of, name in of_programs}
+    for (of, name), public in names.items():
+        for kind, other, its in [*inside, *of_programs]:
+            if its == public and (kind != "impl" or other == of):
+                raise Fault(f"`{of}::{name}` is named `{public}`, as `{other}::{public}` is in the sources")
+        if name in own:
+            raise Fault(f"`{own[name]}::{name}` of a program has the name of `{of}::{name}`, which programs call `{public}`")
+        other, its = first.setdefault(name, (of, public))
+        if its != public:
+            raise Fault(f"`{of}::{name}` is named `{public}`, and programs call it `{its}`, as `{other}::{name}`")
 
 
 def crates_own(function):

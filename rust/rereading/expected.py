@@ -12,7 +12,7 @@ from rereading.rules import CRATES, SAFETY, kit_of
 
 # The marks of items that are no functions, by how these begin; no function has any of `ELSEWHERE`.
 MARKED = {"mod": ("visible", "replaced by"), "impl": ("by hand",), "trait": ("lawful",), "struct": ("by PDEP",)}
-ELSEWHERE = ("by hand", "lawful", "by PDEP")
+ELSEWHERE = ("lawful", "by PDEP")
 
 
 class Item:
@@ -44,7 +44,7 @@ class File:
 
     >>> from types import SimpleNamespace
     >>> from rereading.lexer import Words
-    >>> package = SimpleNamespace(public={"A"}, twins={}, own_levels={}, roots=set(), lawful=set(), instead={})
+    >>> package = SimpleNamespace(public={"A"}, twins={}, own_levels={}, roots=set(), lawful=set(), instead={}, names={})
     >>> said = lambda text: " ".join(File("mask_bits", "src/a.rs", Words(text), package).all())
     >>> said("// rust: visible\\nfn f(alloc: Global) -> u8 ensures { result ≡ 1 } { 1 }")
     '# [ inline ] pub ( crate ) fn f ( ) -> u8 { 1 }'
@@ -174,6 +174,9 @@ class File:
         """The fields of a struct, or the variants of an enum, without ghost ones and what an error's texts are made of."""
         out, words = [], self.words.all
         while i < end:
+            if "visible" in self.words.marks.get(i, ()):
+                self.marked += 1
+                out += OURS
             if words[i] == "ghost":
                 while out and out[-1] != ",":
                     out.pop()

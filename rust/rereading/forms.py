@@ -3,7 +3,7 @@ conditions, one that tests them and one that has the body."""
 from rereading.clauses import Test
 from rereading.functions import INTO_ITER
 from rereading.lexer import Unexplained, words_of
-from rereading.rules import FEATURES, NATIVE
+from rereading.rules import FEATURES, KEPT, NATIVE
 
 ALWAYS, INLINE, TRACKED = (words_of(f"#[{it}]") for it in ("inline(always)", "inline", "track_caller"))
 ON_X86 = words_of('#[cfg(target_arch = "x86_64")]')
@@ -19,6 +19,7 @@ class Form:
         self.function, self.name, self.clauses, self.body = function, function.name, clauses, body
         self.kind, self.of = kind, of
         self.quality = [*OURS, *item.quality] if self.marks.has("visible") else item.quality
+        self.public_name = None
         self.own = item.own_attributes()
         self.inline = self.inlined()
 
@@ -27,6 +28,10 @@ class Form:
             raise Unexplained(f"{self.file.words.name}: {self.name} tests nothing, and a mark says what it tells")
         if self.kind == "trait impl":
             return self.made(self.name + ("_proved" if (self.of, self.name) in self.package.twins else ""))
+        if self.marks.named and self.name not in KEPT:
+            self.package.names[self.of, self.name] = self.public_name = self.marks.named
+        if self.marks.has("by hand"):
+            return []
         copies = [*self.copies(), *self.under_own_name()]
         return [*(self.public() if self.is_public() else self.by_types(self.function.signature())), *copies]
 
@@ -98,16 +103,19 @@ class Form:
             self.body = [*self.body[:first], *tests, *self.body[first:]]
             own = [*self.own, *TRACKED, *self.inline, *self.quality]
             return [*own, *self.widened(), *self.body]
-        if not tests:
+        if not tests and not self.public_name:
             return self.by_types(self.widened())
+        tracked = TRACKED if tests else []
         tests = [*sum((list_of(it) for it in listing), []), *tests]
-        head = [*INLINE, *TRACKED, *self.quality, *self.function.signature(widened=True), "{", *tests]
+        signature = self.function.signature(self.public_name, widened=True)
+        head = [*INLINE, *tracked, *self.quality, *signature, "{", *tests]
         if self.kind is None:
             self.file.tested.append([*head, *self.function.call(self.name, "inner", listing), "}"])
             return self.made()
         self.package.twins.add((self.of, self.name))
         of_trait = self.kind == "trait"
-        call = self.function.call(f"{self.name}_proved", "Self" if of_trait else self.of, listing)
+        through = {*listing, *self.function.iterators()}
+        call = self.function.call(f"{self.name}_proved", "Self" if of_trait else self.of, through)
         return [*head, *call, "}", *self.made(f"{self.name}_proved", [] if of_trait else OURS)]
 
     def tests(self):
@@ -127,7 +135,7 @@ class Form:
         """Its signature with all that can be gone through where the source takes an iterator, which its body begins by."""
         anew = [["let", it, "=", it, *INTO_ITER, ";"] for it in self.function.iterators()]
         self.body = [*self.body[:1], *sum(anew, []), *self.body[1:]]
-        return self.function.signature(widened=True)
+        return self.function.signature(self.public_name, widened=True)
 
     # ---- names
 
@@ -145,8 +153,9 @@ class Form:
         return [*head, *self.quality, *signature, "{", *self.function.call(name, self.of), "}", *twin]
 
     def under_own_name(self):
-        """A public method that has another name than in the source has that for the package's own calls."""
-        if not self.marks.named:
+        """A public method that has another name than in the source has that for the package's own calls, if Rust's own types
+        have methods of that name. (Else these go to what has the body.)"""
+        if not self.marks.named or self.public_name:
             return []
         call = ["{", *self.function.call(self.marks.named, self.of), "}"]
         made = [*ALWAYS, *OURS, *self.function.signature(self.name), *call]

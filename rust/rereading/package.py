@@ -42,11 +42,13 @@ class Package:
         self.own_levels, self.roots = {}, set()
         # lawful traits; and what stands in the place of functions and types, by the mark's words and their names
         self.lawful, self.instead = set(), {}
+        # public names of methods that have another one in the sources
+        self.names = {}
         # (twice: what a file has may hang on one behind it)
         for _ in range(2):
             files = {here: File(crate, here, words, self) for here, (crate, words) in self.sources.items()}
             made = {here: it.all() for here, it in files.items()}
-        known = self.twins, self.lawful, self.instead
+        known = self.twins, self.lawful, self.instead, self.names
         self.rewriting = {crate: Rewriting(it.inside, kit_of(crate), *known) for crate, it in CRATES.items()}
         inlined = self.inlined(made)
         self.expected = {}

@@ -72,8 +72,10 @@ class Rewriting:
 ; crate :: native :: quickest ! ( native :: Bmi2 :: of ( native :: g ( 1 ) ) , Portable :: of ( native :: g ( 1 ) ) )'
     """
 
-    def __init__(self, inside, kit, twins, lawful, instead):
+    def __init__(self, inside, kit, twins, lawful, instead, names=()):
         self.inside, self.twins, self.lawful, self.instead = inside, twins, lawful, instead
+        # public names of methods, by their types and their names in the sources
+        self.names = dict(names)
         self.rules, self.methods = {}, {name for _, name in twins}
         own = [(f"{name}(", f"{it}(", "") for (how, name), it in instead.items() if how == "replaced by" and inside]
         for pattern, into, _ in RULES + own:
@@ -85,6 +87,8 @@ class Rewriting:
         words = renamed_methods(words)
         if self.inside:
             words = self.by_body(quickest(words, {name: it for (how, name), it in self.instead.items() if how == "by PDEP"}))
+        else:
+            words = self.by_public_name(words)
         if left := next((it for it in words if it in LEFT), None):
             raise Unexplained(f"`{left}` is left")
         return words
@@ -110,6 +114,24 @@ class Rewriting:
         for i, it in enumerate(words):
             fits = it in self.methods and operands_at(words, i) and self.has_twin(words, i)
             out.append(f"{it}_proved" if fits else it)
+        return out
+
+    def by_public_name(self, words):
+        """A program's calls go to methods by their public names: a method's call by the name alone, which is of all types.
+
+        >>> rewriting = Rewriting(False, "::row_mask::kit", set(), set(), {}, {("A", "cut"): "try_cut"})
+        >>> " ".join(rewriting.all(words_of("a.cut(1); A::cut(1); B::cut(1); a.cut; f::cut(1)")))
+        'a . try_cut ( 1 ) ; A :: try_cut ( 1 ) ; B :: cut ( 1 ) ; a . cut ; f :: cut ( 1 )'
+        """
+        methods, out = {name: it for (_, name), it in self.names.items()}, []
+        for i, it in enumerate(words):
+            found = it
+            if it in methods and operands_at(words, i):
+                if words[i - 1] == ".":
+                    found = methods[it]
+                elif words[i - 1] == "::":
+                    found = self.names.get((words[i - 2], it), it)
+            out.append(found)
         return out
 
     def has_twin(self, words, i):

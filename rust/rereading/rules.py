@@ -19,7 +19,11 @@ wherever its words stand: the made file has to have the other words there. These
 | a lent test of rows | one that may count what it is asked | `functions.py` |
 | methods, and paths to methods, with names of the table `METHODS` | the others there | `rewriting.renamed_methods` |
 | a method with the name of another type's call with conditions | also one with that one's other name | `forms.by_types` |
-| a public method with the mark `named` | that name, and its own for the package's calls | `forms.under_own_name` |
+| a public method with the mark `named` | that name; and what has the body, for the package's calls | `forms.public` |
+| the same, where Rust's lists or pointers have that name | that name, and its own for the package's calls | `forms.under_own_name` |
+| a program's calls of methods with that mark | calls by that name | `rewriting.by_public_name` |
+| a method that is marked `by hand` | nothing | `forms.all` |
+| a field that is marked `visible` | what the package sees | `expected.fields` |
 | files of programs | also `#![no_implicit_prelude]` | `package.finished` |
 | calls inside the package with a type that is marked `by PDEP` | also with the mark's, where it is quick | `rewriting.quickest` |
 | calls inside the package of what is marked `replaced by` | calls of what the mark says | `rewriting.all` |
@@ -89,6 +93,12 @@ METHODS = {
     "resize": "try_resize",
     "shrink_to_fit": "shrink_or_stay",
     "to_vec": "try_to_vec",
+}
+# Methods that Rust's lists, or pointers beside those of what they point to, have too: the package's own calls of such a name
+# may be theirs, and so stand as they are.
+KEPT = {
+    *METHODS, "as_mut", "as_ref", "borrow", "borrow_mut", "clone", "cmp", "eq", "fmt", "ge", "gt", "hash", "into", "le", "lt",
+    "max", "min", "ne", "partial_cmp", "to_string",
 }
 RULES = [
     ("vec![in alloc; $a; $b]", "KIT::filled($a, $b)", "a list of one item may be refused"),

@@ -129,11 +129,10 @@ impl<'a> Bitmap<'a> {
 }
 
 /// A range of the indices below a length.
-// (a bound that is past the last number can't be told from that number, and neither is within)
-pub(crate) fn range_within(
-    range: &impl RangeBounds<usize>,
-    len: usize,
-) -> Result<Range<usize>, Error> {
+// Where a range of so many values starts, and the place past its end. (A bound that is past the last number can't be told
+// from that number, and neither is within.)
+#[inline]
+pub(crate) fn ends_of(range: &impl RangeBounds<usize>, len: usize) -> (usize, usize) {
     let start = match range.start_bound() {
         Bound::Included(start) => *start,
         Bound::Excluded(before) => before.saturating_add(1),
@@ -144,6 +143,14 @@ pub(crate) fn range_within(
         Bound::Excluded(end) => *end,
         Bound::Unbounded => len,
     };
+    (start, end)
+}
+
+pub(crate) fn range_within(
+    range: &impl RangeBounds<usize>,
+    len: usize,
+) -> Result<Range<usize>, Error> {
+    let (start, end) = ends_of(range, len);
     Error::BadRange { start, end, len }.unless(start <= end && end <= len)?;
     Ok(start..end)
 }

@@ -3,6 +3,7 @@
 //! written by hand, and trusted. `README.md` lists all that is.
 
 mod bytes;
+pub(crate) mod cached_list;
 pub(crate) mod lanes;
 mod list;
 mod shared;

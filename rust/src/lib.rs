@@ -9,6 +9,7 @@ compile_error!("row-mask needs a `usize` of 64 bits: its proofs say 2^64");
 pub mod arrow;
 mod bitmap;
 mod buf;
+mod buffer;
 pub mod conditions;
 mod error;
 #[doc(hidden)]

@@ -2,12 +2,15 @@
 //! iterators. They answer no `Result`: where memory is refused they end the process, as Rust's own lists do.
 
 mod answers;
+mod cached;
+mod calls;
+mod makers;
 mod walks;
 
 use crate::kit::{AllocError, TryClone};
 use crate::memory::granted;
 use crate::proved::mask_bits::{BitBuffer, BitBufferMut};
-use crate::proved::vortex_mask::{Mask, MaskError, MaskValues};
+use crate::proved::vortex_mask::{Mask, MaskValues};
 use alloc::vec::Vec;
 use core::fmt;
 use core::hash::{Hash, Hasher};
@@ -36,7 +39,7 @@ macro_rules! operators {
 
             #[track_caller]
             fn bitand(self, other: &$of) -> $of {
-                granted($of::bitand(self, other), self.len())
+                granted(self.try_bitand(other), self.len())
             }
         }
 
@@ -46,7 +49,7 @@ macro_rules! operators {
 
             #[track_caller]
             fn bitand(self, other: &$of) -> $of {
-                granted(self.into_bitand(other), other.len())
+                granted(self.try_into_bitand(other), other.len())
             }
         }
 
@@ -56,7 +59,7 @@ macro_rules! operators {
 
             #[track_caller]
             fn bitor(self, other: &$of) -> $of {
-                granted($of::bitor(self, other), self.len())
+                granted(self.try_bitor(other), self.len())
             }
         }
 
@@ -66,7 +69,7 @@ macro_rules! operators {
 
             #[track_caller]
             fn bitor(self, other: &$of) -> $of {
-                granted(self.into_bitor(other), other.len())
+                granted(self.try_into_bitor(other), other.len())
             }
         }
 
@@ -75,7 +78,7 @@ macro_rules! operators {
             type Output = $of;
 
             fn not(self) -> $of {
-                granted($of::not(self), self.len())
+                granted(self.try_not(), self.len())
             }
         }
 
@@ -85,7 +88,7 @@ macro_rules! operators {
 
             fn not(self) -> $of {
                 let len = self.len();
-                granted(self.into_not(), len)
+                granted(self.try_into_not(), len)
             }
         }
     )*};
@@ -122,7 +125,7 @@ impl Hash for Mask {
 /// The values, packed.
 impl From<&[bool]> for BitBuffer {
     fn from(values: &[bool]) -> BitBuffer {
-        granted(BitBuffer::from_rows(values, |value| *value), values.len())
+        BitBuffer::from_rows(values, |value| *value)
     }
 }
 
@@ -143,8 +146,7 @@ impl FromIterator<bool> for BitBuffer {
 /// The values of a buffer. An empty one gives `AllFalse(0)`.
 impl From<BitBuffer> for Mask {
     fn from(buffer: BitBuffer) -> Mask {
-        let len = buffer.len();
-        granted(Mask::from_buffer(buffer), len)
+        Mask::from_buffer(buffer)
     }
 }
 
@@ -158,19 +160,14 @@ impl FromIterator<bool> for Mask {
 /// The masks, one after another. No values give `AllTrue(0)`. Panics where the sum of their lengths doesn't fit.
 impl FromIterator<Mask> for Mask {
     fn from_iter<I: IntoIterator<Item = Mask>>(masks: I) -> Mask {
-        let masks = Vec::from_iter(masks);
-        let len = masks.iter().map(Mask::len).fold(0, usize::saturating_add);
-        match Mask::from_masks(masks) {
-            Err(refusal @ MaskError::LengthOverflow) => panic!("{refusal}"),
-            made => granted(made, len),
-        }
+        Mask::from_masks(masks)
     }
 }
 
 /// No value.
 impl Default for BitBufferMut {
     fn default() -> BitBufferMut {
-        granted(BitBufferMut::with_capacity(0), 0)
+        BitBufferMut::with_capacity(0)
     }
 }
 
@@ -185,8 +182,7 @@ impl fmt::Debug for BitBufferMut {
 impl Extend<bool> for BitBufferMut {
     fn extend<I: IntoIterator<Item = bool>>(&mut self, values: I) {
         let values = BitBuffer::from_iter(values);
-        let bits = self.len().saturating_add(values.len());
-        granted(self.append_buffer(&values), bits);
+        self.append_buffer(&values);
     }
 }
 

@@ -12,6 +12,7 @@ use std::alloc::{AllocError, Global};
 #[tactic(auto, using(crate::proofs::Lists::BooleanLemmas::length_facts))]
 impl BitBuffer {
     /// The values that are true in both.
+    // rust: named try_bitand
     pub fn bitand(&self, alloc: Global, other: &BitBuffer) -> Result<BitBuffer, AllocError>
         requires { length (values self.now) ≡ length (values other.now) }
         ensures list { IfOk result (λ b. values b ≡ and_of (values self.now) (values other.now)) }
@@ -21,6 +22,7 @@ impl BitBuffer {
     }
 
     /// The values that are true in one or in both.
+    // rust: named try_bitor
     pub fn bitor(&self, alloc: Global, other: &BitBuffer) -> Result<BitBuffer, AllocError>
         requires { length (values self.now) ≡ length (values other.now) }
         ensures list { IfOk result (λ b. values b ≡ or_of (values self.now) (values other.now)) }
@@ -30,6 +32,7 @@ impl BitBuffer {
     }
 
     /// The values that are true here and not in `other`.
+    // rust: named try_bitand_not
     pub fn bitand_not(&self, alloc: Global, other: &BitBuffer) -> Result<BitBuffer, AllocError>
         requires { length (values self.now) ≡ length (values other.now) }
         ensures list { IfOk result (λ b. values b ≡ and_not_of (values self.now) (values other.now)) }
@@ -39,6 +42,7 @@ impl BitBuffer {
     }
 
     /// The complement: each value negated.
+    // rust: named try_not
     pub fn not(&self, alloc: Global) -> Result<BitBuffer, AllocError>
         ensures list { IfOk result (λ b. values b ≡ not_of (values self.now)) }
         ensures len { IfOk result (λ b. length (values b) ≡ length (values self.now)) }
@@ -52,6 +56,7 @@ impl BitBuffer {
 #[tactic(auto, using(crate::proofs::Lists::BooleanLemmas::length_facts))]
 impl BitBuffer {
     /// The values that are true in both.
+    // rust: named try_into_bitand
     pub fn into_bitand(self, alloc: Global, other: &BitBuffer) -> Result<BitBuffer, AllocError>
         requires { length (values self) ≡ length (values other.now) }
         ensures list { IfOk result (λ b. values b ≡ and_of (values self) (values other.now)) }
@@ -61,6 +66,7 @@ impl BitBuffer {
     }
 
     /// The values that are true in one or in both.
+    // rust: named try_into_bitor
     pub fn into_bitor(self, alloc: Global, other: &BitBuffer) -> Result<BitBuffer, AllocError>
         requires { length (values self) ≡ length (values other.now) }
         ensures list { IfOk result (λ b. values b ≡ or_of (values self) (values other.now)) }
@@ -70,6 +76,7 @@ impl BitBuffer {
     }
 
     /// The values that are true here and not in `other`.
+    // rust: named try_into_bitand_not
     pub fn into_bitand_not(self, alloc: Global, other: &BitBuffer) -> Result<BitBuffer, AllocError>
         requires { length (values self) ≡ length (values other.now) }
         ensures list { IfOk result (λ b. values b ≡ and_not_of (values self) (values other.now)) }
@@ -79,6 +86,7 @@ impl BitBuffer {
     }
 
     /// The complement: each value negated.
+    // rust: named try_into_not
     #[tactic(auto, using(crate::proofs::Lists::BooleanLemmas::length_facts, crate::proofs::CombineLemmas::room_facts, std::proofs::lemmas::Grind::common_steps))]
     pub fn into_not(self, alloc: Global) -> Result<BitBuffer, AllocError>
         ensures list { IfOk result (λ b. values b ≡ not_of (values self)) }

@@ -63,6 +63,7 @@ impl BitBuffer {
     }
 
     /// The first `len` bits of bytes that a caller has written.
+    // rust: named try_from_vec
     pub fn from_vec(bytes: Vec<u8>, len: usize) -> Result<BitBuffer, AllocError>
         requires { len ≤ 8 * vec_len bytes }
         ensures buffer { IfOk result
@@ -73,6 +74,7 @@ impl BitBuffer {
     }
 
     /// `len` true values.
+    // rust: named try_new_set
     #[tactic(auto, using(crate::proofs::BufferLemmas::one_value))]
     pub fn new_set(alloc: Global, len: usize) -> Result<BitBuffer, AllocError>
         ensures { IfOk result (λ b. values b ≡ repeated len true) }
@@ -82,6 +84,7 @@ impl BitBuffer {
     }
 
     /// `len` false values.
+    // rust: named try_new_unset
     #[tactic(auto, using(crate::proofs::BufferLemmas::one_value))]
     pub fn new_unset(alloc: Global, len: usize) -> Result<BitBuffer, AllocError>
         ensures { IfOk result (λ b. values b ≡ repeated len false) }
@@ -90,6 +93,7 @@ impl BitBuffer {
     }
 
     /// The list of `len` values that is true exactly at `indices`, in any order and with repeats.
+    // rust: named try_from_indices
     #[tactic(auto, using(std::proofs::Common::take_all, crate::proofs::BufferLemmas::values_from_places))]
     pub fn from_indices(
         alloc: Global,
@@ -107,6 +111,7 @@ impl BitBuffer {
     }
 
     /// The values that an iterator yields, in their order.
+    // rust: named try_from_bools
     pub fn from_bools<I: Iterator<Item = bool>>(
         alloc: Global,
         bools: I,
@@ -141,6 +146,7 @@ impl BitBuffer {
     }
 
     /// The values from `start` to `end`, over the same bytes at the offset of value `start`.
+    // rust: named try_slice
     pub fn slice(&self, start: usize, end: usize) -> Result<BitBuffer, AllocError>
         requires ordered { start ≤ end }
         requires within { end ≤ length (values self.now) }
@@ -241,7 +247,7 @@ impl BitBuffer {
         requires { len ≤ 8 * length room.items }
         ensures { IfOk result (λ b. values b ≡ bitmap room.items 0 len) }
     {
-        Ok(BitBuffer::new(room.freeze()?, len))
+        Ok(BitBuffer::new(BytesMut::freeze(room)?, len))
     }
 
     /// Value `i`.

@@ -37,6 +37,7 @@ impl Model for BitBufferMut {
 
 impl BitBufferMut {
     /// An empty list, with room for `n` bits.
+    // rust: named try_with_capacity
     #[tactic(auto, using(crate::proofs::BuilderLemmas::no_bits))]
     pub fn with_capacity(alloc: Global, n: usize) -> Result<BitBufferMut, AllocError>
         ensures { IfOk result (λ b. b ≡ []) }
@@ -48,6 +49,7 @@ impl BitBufferMut {
     }
 
     /// `len` true values.
+    // rust: named try_new_set
     pub fn new_set(alloc: Global, len: usize) -> Result<BitBufferMut, AllocError>
         ensures { IfOk result (λ b. b ≡ repeated len true) }
     {
@@ -57,6 +59,7 @@ impl BitBufferMut {
     }
 
     /// `len` false values.
+    // rust: named try_new_unset
     pub fn new_unset(alloc: Global, len: usize) -> Result<BitBufferMut, AllocError>
         ensures { IfOk result (λ b. b ≡ repeated len false) }
     {
@@ -92,6 +95,7 @@ impl BitBufferMut {
     }
 
     /// Appends `value`, `n` times.
+    // rust: named try_append_n
     #[tactic(auto, using(crate::proofs::BufferLemmas::len_facts, crate::proofs::BuilderLemmas::appended))]
     pub fn append_n(&mut self, value: bool, n: usize) -> Result<(), AllocError>
         requires { length self.old + n < 2 ^ 64 }
@@ -105,6 +109,7 @@ impl BitBufferMut {
     }
 
     /// Appends the values of a buffer, whatever its bit offset.
+    // rust: named try_append_buffer
     #[tactic(auto, using(crate::proofs::BufferLemmas::len_facts, crate::proofs::BufferLemmas::buffer_facts, crate::proofs::CombineLemmas::part_facts, crate::proofs::BuilderLemmas::appended))]
     pub fn append_buffer(&mut self, other: &BitBuffer) -> Result<(), AllocError>
         requires { length self.old + length (values other.now) < 2 ^ 64 }
@@ -125,6 +130,7 @@ impl BitBufferMut {
     }
 
     /// Appends the lowest `count` bits of a word, the lowest first.
+    // rust: named try_push_word
     #[tactic(auto, using(crate::proofs::BufferLemmas::len_facts, crate::proofs::BuilderLemmas::appended))]
     pub fn push_word(&mut self, word: u64, count: usize) -> Result<(), AllocError>
         requires few { count ≤ 64 }
@@ -139,6 +145,7 @@ impl BitBufferMut {
     }
 
     /// A buffer of the same list.
+    // rust: named try_freeze
     pub fn freeze(self) -> Result<BitBuffer, AllocError>
         ensures { IfOk result (λ b. values b ≡ self) }
     {

@@ -18,6 +18,7 @@ use std::alloc::{AllocError, Global};
 impl BitBuffer {
     /// The values of `of` at the true indices of this buffer, in their order: the way back of a
     /// rank intersection. What Arrow calls to filter `of` by this buffer.
+    // rust: named try_choose_values
     pub fn choose_values(&self, alloc: Global, of: &BitBuffer) -> Result<BitBuffer, AllocError>
         requires { length (values of.now) ≡ length (values self.now) }
         ensures list { IfOk result (λ b. values b ≡ chosen (values of.now) (values self.now)) }

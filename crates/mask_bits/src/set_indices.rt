@@ -33,6 +33,7 @@ impl BitBuffer {
     ///
     /// It takes less time than to collect `set_indices`.
     // rust: level if self.len() > 128
+    // rust: named try_indices
     #[tactic(auto, using(crate::proofs::Lists::Words::BlockLemmas::block_facts))]
     pub fn indices(&self, alloc: Global, true_count: usize) -> Result<Vec<usize>, AllocError>
         requires { true_count ≡ count (values self.now) }

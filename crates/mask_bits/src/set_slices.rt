@@ -36,6 +36,7 @@ impl BitBuffer {
     ///
     /// It takes less time than to collect `set_slices`.
     // rust: level
+    // rust: named try_runs
     pub fn runs(&self, alloc: Global) -> Result<Vec<(usize, usize)>, AllocError>
         ensures { IfOk result (λ ranges. ranges.items ≡ runs (values self.now)) }
     {

@@ -45,7 +45,7 @@ impl BuilderCall {
             "with_capacity" => self.start(BitBufferMut::with_capacity(alloc, self.first)),
             "new_set" => self.start(BitBufferMut::new_set(alloc, self.first)),
             "new_unset" => self.start(BitBufferMut::new_unset(alloc, self.first)),
-            "freeze" => self.freeze(),
+            "freeze" => self.finish(),
             _ => self.change(),
         }
     }
@@ -56,7 +56,7 @@ impl BuilderCall {
     }
 
     // Makes the buffer. The builder is gone where that is refused.
-    fn freeze(&mut self) -> Result<(), Fault> {
+    fn finish(&mut self) -> Result<(), Fault> {
         self.frozen = Some(frozen(self.builder.take().ok_or(NO_BUILDER)?)?);
         Ok(())
     }
@@ -84,7 +84,7 @@ impl BuilderCall {
     pub fn write(&mut self, text: &mut Text) {
         if self.times == 0 {
             if self.builder.is_some() {
-                self.freeze().tell(text);
+                self.finish().tell(text);
             }
             if let Some(buffer) = &self.frozen {
                 buffer.tell(text);

@@ -44,8 +44,8 @@ impl<'n> Call<'n> {
 
     /// What the call leaves as it was, with no list cut: operands that are lent, and clones that are held. Where it
     /// `is_refused` memory, these are also the operands that it changes in place.
-    pub fn kept(&self, is_refused: bool) -> Text {
-        let mut text = Text::new(self.operands.alloc, Detail::Whole);
+    pub fn kept(&self, is_refused: bool, detail: Detail) -> Text {
+        let mut text = Text::new(self.operands.alloc, detail);
         self.operands.write_kept(&mut text, is_refused);
         text
     }

@@ -19,13 +19,13 @@ pub(crate) enum Use {
 
 /// Of what a clone can be held, so that its bytes are shared.
 pub(crate) trait Share: Drop {
-    fn share(&self, words: &mut Words<'_>) -> Self;
+    fn kept(&self, words: &mut Words<'_>) -> Self;
 
     fn write_kept(&self, text: &mut Text);
 }
 
 impl Share for Mask {
-    fn share(&self, words: &mut Words<'_>) -> Mask {
+    fn kept(&self, words: &mut Words<'_>) -> Mask {
         words.made(self.clone(), Mask::default())
     }
 
@@ -38,7 +38,7 @@ impl Share for Mask {
 }
 
 impl Share for BitBuffer {
-    fn share(&self, words: &mut Words<'_>) -> BitBuffer {
+    fn kept(&self, words: &mut Words<'_>) -> BitBuffer {
         words.made(self.clone(), empty())
     }
 
@@ -48,10 +48,10 @@ impl Share for BitBuffer {
 }
 
 impl Share for Vec<Mask> {
-    fn share(&self, words: &mut Words<'_>) -> Vec<Mask> {
+    fn kept(&self, words: &mut Words<'_>) -> Vec<Mask> {
         let mut clones: Vec<Mask> = Vec::new(words.alloc);
         for mask in self {
-            let clone = mask.share(words);
+            let clone = mask.kept(words);
             words.add(&mut clones, clone);
         }
         clones
@@ -65,7 +65,7 @@ impl Share for Vec<Mask> {
 }
 
 impl Share for Option<MaskValues> {
-    fn share(&self, words: &mut Words<'_>) -> Option<MaskValues> {
+    fn kept(&self, words: &mut Words<'_>) -> Option<MaskValues> {
         words.some(self.as_ref()?.clone())
     }
 
@@ -118,7 +118,7 @@ impl<T: Share> Held<T> {
     pub fn hold(&mut self, words: &mut Words<'_>, how: Use, is_held: bool) {
         self.how = how;
         if is_held || words.are_shared {
-            self.held = Some(self.it.share(words));
+            self.held = Some(self.it.kept(words));
         }
     }
 

@@ -21,6 +21,7 @@ mod walks;
 mod words;
 mod written;
 
+use crate::rows::Told;
 use crate::text::Detail;
 use std::process::ExitCode;
 use std::rt::Env;
@@ -42,8 +43,16 @@ fn main(rt: HostRuntime) -> ExitCode {
 // The first argument says what the rows are for.
 fn check<R: Env + Input + Print + AllocGlobal>(rt: &R) -> io::Result<usize> {
     match env::args(rt)?.nth(1) {
-        Some(mode) if mode.as_str() == "refused" => refused::check(rt),
-        Some(_) => rows::check(rt, Detail::Whole),
-        None => rows::check(rt, Detail::Short),
+        Some(mode) if mode.as_str() == "refused" => refused::check(rt, told(Detail::Whole)),
+        Some(_) => rows::check(rt, told(Detail::Whole)),
+        None => rows::check(rt, told(Detail::Short)),
+    }
+}
+
+// A clone keeps the lists that it had.
+fn told(answers: Detail) -> Told {
+    Told {
+        answers,
+        kept: Detail::Whole,
     }
 }

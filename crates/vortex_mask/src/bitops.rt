@@ -18,6 +18,7 @@ use std::alloc::Global;
 impl Mask {
     /// The values that are true in both.
     // rust: says Masks must have the same length
+    // rust: named try_bitand
     pub fn bitand(&self, alloc: Global, other: &Mask) -> Result<Mask, MaskError>
         requires { length (truth self.now) ≡ length (truth other.now) }
         ensures list { IfOk result (λ m. truth m ≡ and_of (truth self.now) (truth other.now)) }
@@ -50,6 +51,7 @@ impl Mask {
 
     /// The values that are true in one or in both.
     // rust: says Masks must have the same length
+    // rust: named try_bitor
     pub fn bitor(&self, alloc: Global, other: &Mask) -> Result<Mask, MaskError>
         requires { length (truth self.now) ≡ length (truth other.now) }
         ensures list { IfOk result (λ m. truth m ≡ or_of (truth self.now) (truth other.now)) }
@@ -81,6 +83,7 @@ impl Mask {
     }
 
     /// The complement: each value negated.
+    // rust: named try_not
     pub fn not(&self, alloc: Global) -> Result<Mask, MaskError>
         ensures list { IfOk result (λ m. truth m ≡ not_of (truth self.now)) }
         ensures len { IfOk result (λ m. length (truth m) ≡ length (truth self.now)) }
@@ -105,6 +108,7 @@ impl Mask {
 
     /// The values that are true here and not in `other`: `bitand_not` of a mask that is only lent.
     // rust: says Masks must have the same length
+    // rust: named try_to_bitand_not
     pub fn to_bitand_not(&self, alloc: Global, other: &Mask) -> Result<Mask, MaskError>
         requires { length (truth self.now) ≡ length (truth other.now) }
         ensures list { IfOk result (λ m. truth m ≡ and_not_of (truth self.now) (truth other.now)) }
@@ -137,6 +141,7 @@ impl Mask {
 impl Mask {
     /// The values that are true in both.
     // rust: says Masks must have the same length
+    // rust: named try_into_bitand
     pub fn into_bitand(self, alloc: Global, other: &Mask) -> Result<Mask, MaskError>
         requires { length (truth self) ≡ length (truth other.now) }
         ensures list { IfOk result (λ m. truth m ≡ and_of (truth self) (truth other.now)) }
@@ -167,6 +172,7 @@ impl Mask {
 
     /// The values that are true in one or in both.
     // rust: says Masks must have the same length
+    // rust: named try_into_bitor
     pub fn into_bitor(self, alloc: Global, other: &Mask) -> Result<Mask, MaskError>
         requires { length (truth self) ≡ length (truth other.now) }
         ensures list { IfOk result (λ m. truth m ≡ or_of (truth self) (truth other.now)) }
@@ -196,6 +202,7 @@ impl Mask {
     }
 
     /// The complement: each value negated.
+    // rust: named try_into_not
     pub fn into_not(self, alloc: Global) -> Result<Mask, MaskError>
         ensures list { IfOk result (λ m. truth m ≡ not_of (truth self)) }
         ensures len { IfOk result (λ m. length (truth m) ≡ length (truth self)) }
@@ -219,6 +226,7 @@ impl Mask {
 
     /// The values that are true here and not in `other`.
     // rust: says Masks must have the same length
+    // rust: named try_bitand_not
     pub fn bitand_not(self, alloc: Global, other: &Mask) -> Result<Mask, MaskError>
         requires { length (truth self) ≡ length (truth other.now) }
         ensures list { IfOk result (λ m. truth m ≡ and_not_of (truth self) (truth other.now)) }

@@ -44,6 +44,7 @@ impl Mask {
     /// number `k` stays true exactly where value `k` of `mask` is true.
     // rust: level alone
     // rust: needs a rank mask as long as the mask's count of true values
+    // rust: named try_intersect_by_rank
     pub fn intersect_by_rank(&self, alloc: Global, mask: &Mask) -> Result<Mask, MaskError>
         requires { length (truth mask.now) ≡ count (truth self.now) }
         ensures len { IfOk result (λ m. length (truth m) ≡ length (truth self.now)) }
@@ -72,6 +73,7 @@ impl Mask {
     /// where no kernel runs: where a side is all true or all false.
     // rust: level alone
     // rust: needs a rank mask as long as the mask's count of true values
+    // rust: named try_intersect_by_rank_counted
     pub fn intersect_by_rank_counted(
         &self,
         alloc: Global,
@@ -144,6 +146,7 @@ impl Mask {
     ///
     /// A stack of filters becomes one by this call. Once the result so far is all false no kernel runs. Which lists of
     /// its true indices the result of one mask or more caches is left open: it depends on each step.
+    // rust: named try_intersect_all_by_rank
     #[tactic(auto, using(mask_bits::proofs::Lists::StackLemmas::length_of_fold))]
     pub fn intersect_all_by_rank(&self, alloc: Global, masks: &[Mask]) -> Result<Mask, MaskError>
         requires { IsStack (truth self.now ∷ map truth masks.now) }

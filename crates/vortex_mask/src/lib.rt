@@ -2,6 +2,8 @@
 #![tactic(auto)]
 
 mod bitops;
+// rust: replaced by kit::cached_list
+mod cached_list;
 pub mod conditions;
 mod eq;
 pub mod intersect_by_rank;

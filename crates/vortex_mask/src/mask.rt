@@ -283,6 +283,7 @@ impl Mask {
     /// For each index the number of true values below it. Values are counted once for all indices,
     /// up to the last of them.
     // rust: within says Row indices exceed array length
+    // rust: named try_valid_counts_for_indices
     #[tactic(auto, using(crate::proofs::Masks::ReadingLemmas::one_value_counts))]
     pub fn valid_counts_for_indices(
         &self,

@@ -140,7 +140,7 @@ fn masks() {
         let ranks = values(a.count(), 3);
         let (a, b, ranks) = (of(a), of(b), of(ranks.as_bitmap()));
         same(|| (a.intersect_by_rank(&ranks), a.choose_values(&b)));
-        same(|| (a.bitand(&b), a.bitor(&b), a == b, a.true_count()));
+        same(|| (a.try_bitand(&b), a.try_bitor(&b), a == b, a.true_count()));
         same(|| BitBuffer::from_rows(&[3_u64, 5, 8], |row| row % 2 == 1));
     });
 }

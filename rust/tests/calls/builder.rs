@@ -45,10 +45,10 @@ impl BuilderCall {
 
     fn step(&mut self) -> Result<(), Fault> {
         match self.form {
-            "with_capacity" => self.start(BitBufferMut::with_capacity(self.first)),
-            "new_set" => self.start(BitBufferMut::new_set(self.first)),
-            "new_unset" => self.start(BitBufferMut::new_unset(self.first)),
-            "freeze" => self.freeze(),
+            "with_capacity" => self.start(BitBufferMut::try_with_capacity(self.first)),
+            "new_set" => self.start(BitBufferMut::try_new_set(self.first)),
+            "new_unset" => self.start(BitBufferMut::try_new_unset(self.first)),
+            "freeze" => self.finish(),
             _ => self.change(),
         }
     }
@@ -59,7 +59,7 @@ impl BuilderCall {
     }
 
     // Makes the buffer. The builder is gone where that is refused.
-    fn freeze(&mut self) -> Result<(), Fault> {
+    fn finish(&mut self) -> Result<(), Fault> {
         self.frozen = Some(frozen(self.builder.take().ok_or(NO_BUILDER)?)?);
         Ok(())
     }
@@ -73,9 +73,9 @@ impl BuilderCall {
             return Err(Fault::Unmet("a length that fits"));
         }
         match self.form {
-            "n" => memory(builder.append_n(self.first == 1, self.count)),
-            "w" if self.count <= 64 => memory(builder.push_word(self.first as u64, self.count)),
-            "b" => memory(builder.append_buffer(&self.buffer)),
+            "n" => memory(builder.try_append_n(self.first == 1, self.count)),
+            "w" if self.count <= 64 => memory(builder.try_push_word(self.first as u64, self.count)),
+            "b" => memory(builder.try_append_buffer(&self.buffer)),
             "set" if self.first < len => Ok(builder.set(self.first)),
             "unset" if self.first < len => Ok(builder.unset(self.first)),
             "w" => Err(Fault::Unmet("64 bits at most")),
@@ -87,7 +87,7 @@ impl BuilderCall {
     pub fn write(&mut self, text: &mut Text) {
         if self.times == 0 {
             if self.builder.is_some() {
-                self.freeze().tell(text);
+                self.finish().tell(text);
             }
             if let Some(buffer) = &self.frozen {
                 buffer.tell(text);
@@ -140,7 +140,7 @@ fn memory(made: Result<(), AllocError>) -> Result<(), Fault> {
 // The buffer, which has the length that the builder said.
 fn frozen(builder: BitBufferMut) -> Result<BitBuffer, Fault> {
     let len = builder.len();
-    match builder.freeze() {
+    match builder.try_freeze() {
         Ok(buffer) if buffer.len() == len => Ok(buffer),
         Ok(_) => Err(Fault::Unmet("a buffer as long as its builder")),
         Err(_) => Err(Fault::Memory),

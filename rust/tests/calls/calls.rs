@@ -34,7 +34,7 @@ pub(crate) fn masks(name: &str, o: &mut Operands, text: &mut Text) -> Found {
         "all_false" (a) => a.all_false(),
         "first" (a) => a.first(),
         "last" (a) => a.last(),
-        "density" (a) => a.density(),
+        "density" (a) => a.share(),
         "bit_buffer" (a) => a.bit_buffer(),
         "display" (a) => text.put_display(a),
         "debug" (a) => text.put_debug(a),
@@ -53,51 +53,51 @@ fn mask_parts(name: &str, o: &mut Operands, text: &mut Text) -> Found {
         "value" (a n) [n < a.len(), "an index within the mask"] => a.value(n),
         "rank" (a n) [n < a.true_count(), "a true value of this number"] => a.rank(n),
         "clone" (a) => a.clone(),
-        "not" (a) => a.not(),
-        "to_bit_buffer" (a) => a.to_bit_buffer(),
-        "from_bools" (a) => Mask::from_bools(a.iter()),
-        "to_limited" (a m) => a.to_limited(m),
-        "slice" (a m n) [m <= n && n <= a.len(), "a range within the mask"] => a.slice(m, n),
-        "groups" (a n) [n > 0, "groups of some rows"] => a.groups(n),
+        "not" (a) => a.try_not(),
+        "to_bit_buffer" (a) => a.try_to_bit_buffer(),
+        "from_bools" (a) => Mask::try_from_bools(a.iter()),
+        "to_limited" (a m) => a.try_to_limited(m),
+        "slice" (a m n) [m <= n && n <= a.len(), "a range within the mask"] => a.try_slice(m, n),
+        "groups" (a n) [n > 0, "groups of some rows"] => a.try_groups(n),
     }
 }
 
 // Of two masks, and of lists of masks.
 fn mask_pairs(name: &str, o: &mut Operands, text: &mut Text) -> Found {
     calls! { name, o, text, else taken_masks(name, o, text);
-        "bitand" (a b) [a.len() == b.len(), "equal lengths"] => a.bitand(b),
-        "bitor" (a b) [a.len() == b.len(), "equal lengths"] => a.bitor(b),
-        "to_bitand_not" (a b) [a.len() == b.len(), "equal lengths"] => a.to_bitand_not(b),
-        "choose_values" (a b) [a.len() == b.len(), "equal lengths"] => a.choose_values(b),
+        "bitand" (a b) [a.len() == b.len(), "equal lengths"] => a.try_bitand(b),
+        "bitor" (a b) [a.len() == b.len(), "equal lengths"] => a.try_bitor(b),
+        "to_bitand_not" (a b) [a.len() == b.len(), "equal lengths"] => a.try_to_bitand_not(b),
+        "choose_values" (a b) [a.len() == b.len(), "equal lengths"] => a.try_choose_values(b),
         "equal" (a b) => a == b,
         "equal_swapped" (a b) => b == a,
-        "intersect_by_rank" (a b) [b.len() == a.true_count(), "a rank for each row"] => a.intersect_by_rank(b),
+        "intersect_by_rank" (a b) [b.len() == a.true_count(), "a rank for each row"] => a.try_intersect_by_rank(b),
         "intersect_by_rank_counted" (a b) [b.len() == a.true_count(), "a rank for each row"]
-            => a.intersect_by_rank_counted(b),
+            => a.try_intersect_by_rank_counted(b),
         "rank_path" (a b) => text.put_debug(&rank_path(there!(a.values()), there!(b.values()))),
         "intersect_all_by_rank" (masks) => stack(text, masks),
         "concat" (masks) => Mask::concat(masks.iter()),
-        "from_masks" (taken_masks) => Mask::from_masks(taken_masks.into_iter()),
+        "from_masks" (taken_masks) => Mask::try_from_masks(taken_masks.into_iter()),
     }
 }
 
 // Of a mask by value, or changed in place, and of a list of numbers.
 fn taken_masks(name: &str, o: &mut Operands, text: &mut Text) -> Found {
     calls! { name, o, text, else mixed(name, o, text);
-        "into_not" (taken) => taken.into_not(),
-        "into_bit_buffer" (taken) => taken.into_bit_buffer(),
-        "limit" (taken n) => taken.limit(n),
-        "into_bitand" (taken b) [taken.len() == b.len(), "equal lengths"] => taken.into_bitand(b),
-        "into_bitor" (taken b) [taken.len() == b.len(), "equal lengths"] => taken.into_bitor(b),
-        "bitand_not" (taken b) [taken.len() == b.len(), "equal lengths"] => taken.bitand_not(b),
+        "into_not" (taken) => taken.try_into_not(),
+        "into_bit_buffer" (taken) => taken.try_into_bit_buffer(),
+        "limit" (taken n) => taken.try_limit(n),
+        "into_bitand" (taken b) [taken.len() == b.len(), "equal lengths"] => taken.try_into_bitand(b),
+        "into_bitor" (taken b) [taken.len() == b.len(), "equal lengths"] => taken.try_into_bitor(b),
+        "bitand_not" (taken b) [taken.len() == b.len(), "equal lengths"] => taken.try_bitand_not(b),
         "clear" (changed) => { changed.clear(); text.put("done") },
-        "indices" (changed) => changed.indices(),
-        "slices" (changed) => changed.slices(),
-        "threshold_iter" (changed m n) [n > 0, "a denominator above 0"] => changed.threshold_iter(m, n),
+        "indices" (changed) => changed.try_indices(),
+        "slices" (changed) => changed.try_slices(),
+        "threshold_iter" (changed m n) [n > 0, "a denominator above 0"] => changed.try_threshold_iter(m, n),
         "valid_counts_for_indices" (a list) => valid_counts(a, list),
-        "choose" (a list) [list.len() == a.len(), "a row for each value"] => a.choose(list),
-        "from_indices" (m list) => Mask::from_indices(m, list.iter().copied()),
-        "from_excluded_indices" (m list) => Mask::from_excluded_indices(m, list.iter().copied()),
+        "choose" (a list) [list.len() == a.len(), "a row for each value"] => a.try_choose(list),
+        "from_indices" (m list) => Mask::try_from_indices(m, list.iter().copied()),
+        "from_excluded_indices" (m list) => Mask::try_from_excluded_indices(m, list.iter().copied()),
     }
 }
 
@@ -109,14 +109,14 @@ fn mixed(name: &str, o: &mut Operands, text: &mut Text) -> Found {
         "values.len" (values) => values.len(),
         "values.is_empty" (values) => values.is_empty(),
         "values.true_count" (values) => values.true_count(),
-        "values.density" (values) => values.density(),
+        "values.density" (values) => values.share(),
         "values.bit_buffer" (values) => values.bit_buffer(),
         "values.debug" (values) => text.put_debug(values),
         "values.value" (values n) [n < values.len(), "an index within the values"] => values.value(n),
-        "values.indices" (changed_values) => changed_values.indices(),
-        "values.slices" (changed_values) => changed_values.slices(),
+        "values.indices" (changed_values) => changed_values.try_indices(),
+        "values.slices" (changed_values) => changed_values.try_slices(),
         "values.threshold_iter" (changed_values m n) [n > 0, "a denominator above 0"]
-            => changed_values.threshold_iter(m, n),
+            => changed_values.try_threshold_iter(m, n),
     }
 }
 
@@ -143,11 +143,11 @@ fn bits(name: &str, o: &mut Operands, text: &mut Text) -> Found {
 fn bit_parts(name: &str, o: &mut Operands, text: &mut Text) -> Found {
     calls! { name, o, text, else bit_pairs(name, o, text);
         "bits.clone" (x) => walks::write_made(text, x.clone()),
-        "bits.not" (x) => x.not(),
-        "bits.indices" (x) => x.indices(x.true_count()),
-        "bits.runs" (x) => x.runs(),
+        "bits.not" (x) => x.try_not(),
+        "bits.indices" (x) => x.try_indices(x.true_count()),
+        "bits.runs" (x) => x.try_runs(),
         "bits.slice" (x m n) [m <= n && n <= x.len(), "a range within the buffer"]
-            => walks::write_made(text, x.slice(m, n)),
+            => walks::write_made(text, x.try_slice(m, n)),
         "bits.value" (x m) [m < x.len(), "an index within the buffer"] => x.value(m),
         "bits.select" (x m) => x.select(m),
         // each number below this one
@@ -163,16 +163,16 @@ fn bit_parts(name: &str, o: &mut Operands, text: &mut Text) -> Found {
 // Of two buffers, and of one by value.
 fn bit_pairs(name: &str, o: &mut Operands, text: &mut Text) -> Found {
     calls! { name, o, text, else made(name, o, text);
-        "bits.bitand" (x y) [x.len() == y.len(), "equal lengths"] => x.bitand(y),
-        "bits.bitor" (x y) [x.len() == y.len(), "equal lengths"] => x.bitor(y),
-        "bits.bitand_not" (x y) [x.len() == y.len(), "equal lengths"] => x.bitand_not(y),
-        "bits.choose_values" (x y) [x.len() == y.len(), "equal lengths"] => x.choose_values(y),
+        "bits.bitand" (x y) [x.len() == y.len(), "equal lengths"] => x.try_bitand(y),
+        "bits.bitor" (x y) [x.len() == y.len(), "equal lengths"] => x.try_bitor(y),
+        "bits.bitand_not" (x y) [x.len() == y.len(), "equal lengths"] => x.try_bitand_not(y),
+        "bits.choose_values" (x y) [x.len() == y.len(), "equal lengths"] => x.try_choose_values(y),
         "bits.equal" (x y) => x == y,
-        "bits.into_not" (taken_x) => taken_x.into_not(),
-        "bits.into_bitand" (taken_x y) [taken_x.len() == y.len(), "equal lengths"] => taken_x.into_bitand(y),
-        "bits.into_bitor" (taken_x y) [taken_x.len() == y.len(), "equal lengths"] => taken_x.into_bitor(y),
+        "bits.into_not" (taken_x) => taken_x.try_into_not(),
+        "bits.into_bitand" (taken_x y) [taken_x.len() == y.len(), "equal lengths"] => taken_x.try_into_bitand(y),
+        "bits.into_bitor" (taken_x y) [taken_x.len() == y.len(), "equal lengths"] => taken_x.try_into_bitor(y),
         "bits.into_bitand_not" (taken_x y) [taken_x.len() == y.len(), "equal lengths"]
-            => taken_x.into_bitand_not(y),
+            => taken_x.try_into_bitand_not(y),
     }
 }
 
@@ -183,14 +183,14 @@ fn made(name: &str, o: &mut Operands, text: &mut Text) -> Found {
         "new_true" (m) => Mask::new_true(m),
         "new_false" (m) => Mask::new_false(m),
         "default" (m) [m == 0, "no length"] => Mask::default(),
-        "bits.new_set" (m) => BitBuffer::new_set(m),
-        "bits.new_unset" (m) => BitBuffer::new_unset(m),
-        "cloned" (m) => AllOr::Some(&m).cloned(),
-        "from_rows" (flags) => Mask::from_rows(flags, |row| *row),
-        "bits.from_bools" (flags) => BitBuffer::from_bools(flags.iter().copied()),
-        "bits.from_rows" (flags) => BitBuffer::from_rows(flags, |row| *row),
+        "bits.new_set" (m) => BitBuffer::try_new_set(m),
+        "bits.new_unset" (m) => BitBuffer::try_new_unset(m),
+        "cloned" (m) => AllOr::Some(&m).try_cloned(),
+        "from_rows" (flags) => Mask::try_from_rows(flags, |row| *row),
+        "bits.from_bools" (flags) => BitBuffer::try_from_bools(flags.iter().copied()),
+        "bits.from_rows" (flags) => BitBuffer::try_from_rows(flags, |row| *row),
         "bits.from_indices" (m list) [list.iter().all(|i| *i < m), "indices below the length"]
-            => BitBuffer::from_indices(m, list),
+            => BitBuffer::try_from_indices(m, list),
         "equals_buffer" (a x) => a.equals_buffer(x),
         "at_least" (p q) [p.den > 0 && q.den > 0, "denominators above 0"] => p.at_least(q),
         "equal_fractions" (p q) => p == q,
@@ -201,14 +201,14 @@ fn made(name: &str, o: &mut Operands, text: &mut Text) -> Found {
 fn made_of_taken(name: &str, o: &mut Operands, text: &mut Text) -> Found {
     calls! { name, o, text, else words(name, o, text);
         "from_intersection_indices" (m x y)
-            => Mask::from_intersection_indices(m, x.set_indices(), y.set_indices()),
-        "from_common_index" (m n) => Mask::from_intersection_indices(m, [n].into_iter(), [n].into_iter()),
-        "from_buffer" (taken_x) => Mask::from_buffer(taken_x),
-        "from_slices" (m taken_ranges) => Mask::from_slices(m, taken_ranges),
+            => Mask::try_from_intersection_indices(m, x.set_indices(), y.set_indices()),
+        "from_common_index" (m n) => Mask::try_from_intersection_indices(m, [n].into_iter(), [n].into_iter()),
+        "from_buffer" (taken_x) => Mask::try_from_buffer(taken_x),
+        "from_slices" (m taken_ranges) => Mask::try_from_slices(m, taken_ranges),
         "from_buffer_with_slices" (taken_ranged) => taken_ranged.mask(),
         "bits.from_vec" (taken_bytes m)
             [m <= 8 * taken_bytes.len().min(1_000_000), "a bit for each value"]
-            => BitBuffer::from_vec(taken_bytes, m),
+            => BitBuffer::try_from_vec(taken_bytes, m),
         "builder" (builder) => builder.make(),
     }
 }
@@ -263,16 +263,18 @@ fn valid_counts(a: &Mask, indices: &[usize]) -> Result<Vec<usize>, Fault> {
     if !indices.is_sorted() || !indices.iter().all(|i| *i <= a.len()) {
         return Err(Fault::Unmet("indices in order, within the mask"));
     }
-    Ok(a.valid_counts_for_indices(indices)?)
+    Ok(a.try_valid_counts_for_indices(indices)?)
 }
 
 // A stack of one mask is a clone of it, with its lists.
 fn stack(text: &mut Text, masks: &[Mask]) {
     match masks {
-        [first, rest @ ..] if are_a_stack(first, rest) => match first.intersect_all_by_rank(rest) {
-            Ok(mask) if !rest.is_empty() => write_uncached(text, &mask),
-            answer => answer.tell(text),
-        },
+        [first, rest @ ..] if are_a_stack(first, rest) => {
+            match first.try_intersect_all_by_rank(rest) {
+                Ok(mask) if !rest.is_empty() => write_uncached(text, &mask),
+                answer => answer.tell(text),
+            }
+        }
         _ => tell_fault(text, Fault::Unmet("a mask, and a rank for each row")),
     }
 }

@@ -46,22 +46,22 @@ impl Ranged {
     }
 
     fn new(len: usize, ranges: Vec<(usize, usize)>) -> Result<Ranged, MaskError> {
-        let mask = Mask::from_slices(len, ranges.try_to_vec()?)?;
-        let buffer = mask.into_bit_buffer()?;
+        let mask = Mask::try_from_slices(len, ranges.try_to_vec()?)?;
+        let buffer = mask.try_into_bit_buffer()?;
         Ok(Ranged { buffer, ranges })
     }
 
     /// `Mask::from_buffer_with_slices`, by value.
     pub(crate) fn mask(self) -> Result<Mask, MaskError> {
         let Ranged { buffer, ranges } = self;
-        Mask::from_buffer_with_slices(buffer, ranges)
+        Mask::try_from_buffer_with_slices(buffer, ranges)
     }
 }
 
 /// `Mask::from_buffer_with_slices`, of a buffer and its own runs.
 pub(crate) fn with_runs(buffer: BitBuffer) -> Result<Mask, MaskError> {
     let runs = buffer.set_slices().try_collected()?;
-    Mask::from_buffer_with_slices(buffer, runs)
+    Mask::try_from_buffer_with_slices(buffer, runs)
 }
 
 impl Word for Option<Ranged> {

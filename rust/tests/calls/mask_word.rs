@@ -20,10 +20,10 @@ impl Word for Mask {
         let mask = mask(words, word);
         let mut mask = words.made(mask, Mask::default());
         if lists.contains("i") {
-            words.some(mask.indices());
+            words.some(mask.try_indices());
         }
         if lists.contains("r") {
-            words.some(mask.slices());
+            words.some(mask.try_slices());
         }
         mask
     }
@@ -55,7 +55,7 @@ fn mask(words: &mut Words<'_>, word: &str) -> Result<Mask, MaskError> {
 
 fn of_buffer(words: &mut Words<'_>, word: &str) -> Result<Mask, MaskError> {
     let buffer = BitBuffer::read(words, word);
-    Mask::from_buffer(buffer)
+    Mask::try_from_buffer(buffer)
 }
 
 fn ranged(words: &mut Words<'_>, word: &str) -> Result<Mask, MaskError> {
@@ -68,10 +68,10 @@ fn ranged(words: &mut Words<'_>, word: &str) -> Result<Mask, MaskError> {
 fn listed(words: &mut Words<'_>, len: usize, list: &str) -> Result<Mask, MaskError> {
     if list.contains("..") {
         let ranges = words.list(list);
-        return Mask::from_slices(len, ranges);
+        return Mask::try_from_slices(len, ranges);
     }
     let indices: Vec<usize> = words.list(list);
-    Mask::from_indices(len, indices.into_iter())
+    Mask::try_from_indices(len, indices.into_iter())
 }
 
 fn by_values(words: &mut Words<'_>, form: &str, list: &str) -> Result<Mask, MaskError> {
@@ -83,15 +83,15 @@ fn by_values(words: &mut Words<'_>, form: &str, list: &str) -> Result<Mask, Mask
 // first third, and the rest.
 fn by_constructor(words: &mut Words<'_>, form: &str, values: &[bool]) -> Result<Mask, MaskError> {
     match form {
-        "bools" => Mask::from_bools(values.iter().copied()),
-        "rows" => Mask::from_rows(values, |row| *row),
-        _ => of_form(words, form, BitBuffer::from_bools(values.iter().copied())?),
+        "bools" => Mask::try_from_bools(values.iter().copied()),
+        "rows" => Mask::try_from_rows(values, |row| *row),
+        _ => of_form(words, form, BitBuffer::try_from_bools(values.iter().copied())?),
     }
 }
 
 fn of_form(words: &mut Words<'_>, form: &str, buffer: BitBuffer) -> Result<Mask, MaskError> {
     match form {
-        "buffer" => Mask::from_buffer(buffer),
+        "buffer" => Mask::try_from_buffer(buffer),
         "ranged" => with_runs(buffer),
         "indices" => of_indices(&buffer),
         "excluded" => of_excluded(buffer),
@@ -104,21 +104,21 @@ fn of_form(words: &mut Words<'_>, form: &str, buffer: BitBuffer) -> Result<Mask,
 }
 
 fn of_indices(buffer: &BitBuffer) -> Result<Mask, MaskError> {
-    Mask::from_indices(buffer.len(), buffer.set_indices())
+    Mask::try_from_indices(buffer.len(), buffer.set_indices())
 }
 
 fn of_excluded(buffer: BitBuffer) -> Result<Mask, MaskError> {
-    let excluded = buffer.into_not()?;
-    Mask::from_excluded_indices(excluded.len(), excluded.set_indices())
+    let excluded = buffer.try_into_not()?;
+    Mask::try_from_excluded_indices(excluded.len(), excluded.set_indices())
 }
 
 fn of_common(buffer: &BitBuffer) -> Result<Mask, MaskError> {
     let (lhs, rhs) = (buffer.set_indices(), buffer.set_indices());
-    Mask::from_intersection_indices(buffer.len(), lhs, rhs)
+    Mask::try_from_intersection_indices(buffer.len(), lhs, rhs)
 }
 
 fn of_runs(buffer: &BitBuffer) -> Result<Mask, MaskError> {
-    Mask::from_slices(buffer.len(), buffer.runs()?)
+    Mask::try_from_slices(buffer.len(), buffer.try_runs()?)
 }
 
 fn of_thirds(buffer: BitBuffer) -> Result<Mask, MaskError> {
@@ -126,12 +126,12 @@ fn of_thirds(buffer: BitBuffer) -> Result<Mask, MaskError> {
 }
 
 fn of_taken_thirds(buffer: BitBuffer) -> Result<Mask, MaskError> {
-    Mask::from_masks(thirds(buffer)?.into_iter())
+    Mask::try_from_masks(thirds(buffer)?.into_iter())
 }
 
 fn thirds(buffer: BitBuffer) -> Result<[Mask; 2], MaskError> {
-    let mask = Mask::from_buffer(buffer)?;
+    let mask = Mask::try_from_buffer(buffer)?;
     let third = mask.len() / 3;
-    let first = mask.slice(0, third)?;
-    Ok([first, mask.slice(third, mask.len())?])
+    let first = mask.try_slice(0, third)?;
+    Ok([first, mask.try_slice(third, mask.len())?])
 }

@@ -89,13 +89,13 @@ fn of_bytes(words: &mut Words<'_>, word: &str) -> Made {
 
 fn of_values(words: &mut Words<'_>, word: &str) -> Made {
     let values: Vec<bool> = Vec::read(words, word);
-    BitBuffer::from_bools(values.iter().copied())
+    BitBuffer::try_from_bools(values.iter().copied())
 }
 
 fn buffer(words: &mut Words<'_>, word: &str) -> Made {
     match (word.split_once(":"), parts(word)) {
-        (Some(("all", len)), _) => BitBuffer::new_set(usize::read(words, len)),
-        (Some(("none", len)), _) => BitBuffer::new_unset(usize::read(words, len)),
+        (Some(("all", len)), _) => BitBuffer::try_new_set(usize::read(words, len)),
+        (Some(("none", len)), _) => BitBuffer::try_new_unset(usize::read(words, len)),
         (Some(("bytes", rest)), _) => of_bytes(words, rest),
         (_, Some((offset, list, around))) => {
             let (offset, list) = (usize::read(words, offset), words.digits(list));

@@ -8,14 +8,14 @@
 use crate::call::Call;
 use crate::host::{AllocGlobal, Input, Print};
 use crate::host::{BufRead, BufReader, io};
-use crate::rows::Row;
-use crate::text::{Detail, Text};
+use crate::rows::{Row, Told};
+use crate::text::Text;
 use ::row_mask::kit::prelude::*;
 
 /// Makes the call of each row.
-pub(crate) fn check<R: Input + Print + AllocGlobal>(rt: &R) -> io::Result<usize> {
+pub(crate) fn check<R: Input + Print + AllocGlobal>(rt: &R, how: Told) -> io::Result<usize> {
     for line in BufReader::new(rt.reader())?.lines() {
-        check_line(rt, line?.as_str());
+        check_line(rt, line?.as_str(), how);
     }
     Ok(0)
 }
@@ -24,8 +24,8 @@ fn say<R: Print>(rt: &R, what: &str, of: &str) {
     let _ = crate::host::println!(rt; "{what}{of}");
 }
 
-fn check_line<R: Print + AllocGlobal>(rt: &R, line: &str) {
-    match Row::read(line, Detail::Whole) {
+fn check_line<R: Print + AllocGlobal>(rt: &R, line: &str, how: Told) {
+    match Row::read(line, how) {
         Some(row) => {
             say(rt, "scenario ", row.names);
             if let Some(call) = read(rt, row) {
@@ -47,12 +47,12 @@ fn read<'a, R: Print + AllocGlobal>(rt: &R, row: Row<'a>) -> Option<Call<'a>> {
 // Makes the call, compares what it leaves as it was, and makes it again where it was refused. What a row wants may end
 // in ` or ` and what a builder has that was refused: then it is not called again.
 fn check_call<R: Print + AllocGlobal>(rt: &R, row: Row<'_>, mut call: Call<'_>) {
-    let answered = call.kept(false);
-    let refused = call.kept(true);
+    let answered = call.kept(false, row.how.kept);
+    let refused = call.kept(true, row.how.kept);
     let (want, _) = row.want.split_once(" or ").unwrap_or((row.want, ""));
     let is_refused = !is_answered(rt, "calls", &mut call, want);
     let before = if is_refused { &refused } else { &answered };
-    if !before.says(call.kept(is_refused).as_str()) {
+    if !before.says(call.kept(is_refused, row.how.kept).as_str()) {
         say(rt, "wrong: what was lent has changed", "");
     }
     if is_refused {

@@ -21,25 +21,34 @@ pub(crate) struct Row<'a> {
     pub words: &'a str,
     /// The answer of each.
     pub want: &'a str,
-    detail: Detail,
+    pub how: Told,
+}
+
+/// How much is told of answers, and how much is compared of operands and clones that a call leaves as they were: without
+/// cached lists, where a clone has those that are made for another one.
+#[derive(Clone, Copy)]
+pub(crate) struct Told {
+    pub answers: Detail,
+    pub kept: Detail,
 }
 
 impl<'a> Row<'a> {
     /// The parts of a line, in which `->` stands for so much detail.
-    pub fn read(line: &'a str, detail: Detail) -> Option<Row<'a>> {
-        let (mark, detail) =
-            if line.contains(" => ") { (" => ", Detail::Lists) } else { (" -> ", detail) };
+    pub fn read(line: &'a str, how: Told) -> Option<Row<'a>> {
+        let (mark, answers) =
+            if line.contains(" => ") { (" => ", Detail::Lists) } else { (" -> ", how.answers) };
+        let kept = how.kept;
         let (call, want) = line.split_once(mark)?;
         let (names, words) = call.split_once(" ")?;
-        Some(Row { names, words, want, detail })
+        Some(Row { names, words, want, how: Told { answers, kept } })
     }
 
     // What is wrong with the call of this name: its answer where another one is wanted, or else what operands that it
     // leaves as they are have become.
     fn fault(self, name: &str, is_shared: bool) -> Option<Text> {
-        let mut answer = Text::new(self.detail);
+        let mut answer = Text::new(self.how.answers);
         let change = match Call::read(name, self.words, is_shared) {
-            Ok(call) => change(call, &mut answer),
+            Ok(call) => change(call, &mut answer, self.how.kept),
             Err(fault) => {
                 tell_fault(&mut answer, fault);
                 None
@@ -50,11 +59,11 @@ impl<'a> Row<'a> {
 }
 
 // Tells the answer, and what the call changed in place. What it should leave as it was, if that has changed.
-fn change(mut call: Call<'_>, answer: &mut Text) -> Option<Text> {
-    let before = call.kept(false);
+fn change(mut call: Call<'_>, answer: &mut Text, detail: Detail) -> Option<Text> {
+    let before = call.kept(false, detail);
     call.run(answer);
     call.operands.write_changed(answer);
-    let after = call.kept(false);
+    let after = call.kept(false, detail);
     let is_kept = before.says(after.as_str());
     if is_kept { None } else { Some(after) }
 }
@@ -72,10 +81,10 @@ const MOST: usize = 20;
 
 /// Makes the calls of each row, says which answer otherwise, and how many there are. How many were wrong. Where a line
 /// can't be written, nor can the last one.
-pub(crate) fn check<R: Input + Print + AllocGlobal>(rt: &R, detail: Detail) -> io::Result<usize> {
+pub(crate) fn check<R: Input + Print + AllocGlobal>(rt: &R, how: Told) -> io::Result<usize> {
     let mut count = Count::default();
     for line in BufReader::new(rt.reader())?.lines() {
-        check_line(rt, &mut count, line?.as_str(), detail);
+        check_line(rt, &mut count, line?.as_str(), how);
     }
     crate::host::println!(rt; "{} rows, {} calls, {} wrong",
         count.rows, count.calls, count.wrong
@@ -84,10 +93,10 @@ pub(crate) fn check<R: Input + Print + AllocGlobal>(rt: &R, detail: Detail) -> i
 }
 
 // Empty lines and comments are no rows.
-fn check_line<R: Print + AllocGlobal>(rt: &R, count: &mut Count, line: &str, detail: Detail) {
+fn check_line<R: Print + AllocGlobal>(rt: &R, count: &mut Count, line: &str, how: Told) {
     if !matches!(line.as_bytes(), [] | [b'#', ..]) {
         count.rows = count.rows.saturating_add(1);
-        match Row::read(line, detail) {
+        match Row::read(line, how) {
             Some(row) => check_row(rt, count, row),
             None => {
                 count.wrong = count.wrong.saturating_add(1);

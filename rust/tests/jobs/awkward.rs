@@ -29,7 +29,7 @@ pub fn run(numbers: &mut Numbers, rounds: u32, digest: &mut Digest) -> Result<()
 // A mask of so many values, of which so many in 256 are true: by a test of rows from anywhere in the table.
 fn random(table: &Table, numbers: &mut Numbers, len: usize, share: u8) -> Result<Mask, MaskError> {
     let start = numbers.below(ROWS as usize / 2);
-    Mask::from_rows(part(&table.codes, start, len), |code| *code < share)
+    Mask::try_from_rows(part(&table.codes, start, len), |code| *code < share)
 }
 
 // Lists and walks of runs that are as many as there can be.
@@ -41,15 +41,15 @@ fn lists(
 ) -> Result<(), MaskError> {
     let mut half = random(table, numbers, len, 128)?;
     let even = numbers.below(2);
-    let alternating = Mask::from_bools((0..len).map(|row| row % 2 == even))?;
+    let alternating = Mask::try_from_bools((0..len).map(|row| row % 2 == even))?;
     let mut both = bitand(&half, &alternating)?;
-    if let AllOr::Some(indices) = half.indices()? {
+    if let AllOr::Some(indices) = half.try_indices()? {
         digest.add_list(indices);
     }
-    if let AllOr::Some(ranges) = half.slices()? {
+    if let AllOr::Some(ranges) = half.try_slices()? {
         digest.add_list(ranges);
     }
-    if let AllOr::Some(ranges) = both.slices()? {
+    if let AllOr::Some(ranges) = both.try_slices()? {
         digest.add_list(ranges);
     }
     let mut walked = 0u64;

@@ -38,12 +38,12 @@ fn combined(
     let b = page(bitmap, numbers, len)?;
     let c = page(bitmap, numbers, len)?;
     let both = bitand(&a, &b)?;
-    let neither = into_bitor(a.not()?, &b.not()?)?;
-    digest.add_count((neither == both.not()?) as usize);
+    let neither = into_bitor(a.try_not()?, &b.try_not()?)?;
+    digest.add_count((neither == both.try_not()?) as usize);
     digest.add_count((a == b) as usize);
     let some = into_bitor(both, &c)?;
     let d = page(bitmap, numbers, len)?;
-    let left = bitand_not(some, &d)?.into_not()?;
+    let left = bitand_not(some, &d)?.try_into_not()?;
     digest.add_mask(&left);
     Ok(left)
 }

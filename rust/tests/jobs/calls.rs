@@ -9,49 +9,49 @@ pub fn choose<T: Copy>(mask: &Mask, rows: &[T]) -> Result<Vec<T>, MaskError> {
     if rows.len() != mask.len() {
         return Err(MaskError::LengthOverflow);
     }
-    mask.choose(rows)
+    mask.try_choose(rows)
 }
 
 pub fn choose_values(mask: &Mask, of: &Mask) -> Result<Mask, MaskError> {
     if of.len() != mask.len() {
         return Err(MaskError::LengthOverflow);
     }
-    mask.choose_values(of)
+    mask.try_choose_values(of)
 }
 
 pub fn narrow(mask: &Mask, ranks: &Mask) -> Result<Mask, MaskError> {
     if ranks.len() != mask.true_count() {
         return Err(MaskError::LengthOverflow);
     }
-    mask.intersect_by_rank(ranks)
+    mask.try_intersect_by_rank(ranks)
 }
 
 pub fn bitand(left: &Mask, right: &Mask) -> Result<Mask, MaskError> {
     if left.len() != right.len() {
         return Err(MaskError::LengthOverflow);
     }
-    left.bitand(right)
+    left.try_bitand(right)
 }
 
 pub fn into_bitor(left: Mask, right: &Mask) -> Result<Mask, MaskError> {
     if left.len() != right.len() {
         return Err(MaskError::LengthOverflow);
     }
-    left.into_bitor(right)
+    left.try_into_bitor(right)
 }
 
 pub fn bitand_not(left: Mask, right: &Mask) -> Result<Mask, MaskError> {
     if left.len() != right.len() {
         return Err(MaskError::LengthOverflow);
     }
-    left.bitand_not(right)
+    left.try_bitand_not(right)
 }
 
 pub fn slice(mask: &Mask, start: usize, end: usize) -> Result<Mask, MaskError> {
     if start > end || end > mask.len() {
         return Err(MaskError::LengthOverflow);
     }
-    mask.slice(start, end)
+    mask.try_slice(start, end)
 }
 
 pub fn count_range(mask: &Mask, start: usize, end: usize) -> usize {
@@ -68,7 +68,7 @@ pub fn valid_counts(mask: &Mask, indices: &[usize]) -> Result<Vec<usize>, MaskEr
     if !indices.iter().all(|index| *index <= len) {
         return Err(MaskError::LengthOverflow);
     }
-    mask.valid_counts_for_indices(indices)
+    mask.try_valid_counts_for_indices(indices)
 }
 
 // Whether no index is below the one before it.
@@ -79,7 +79,7 @@ fn in_order(indices: &[usize]) -> Result<(), MaskError> {
 /// One mask in the place of a stack.
 pub fn narrow_all(masks: &[Mask]) -> Result<Mask, MaskError> {
     match masks {
-        [first, rest @ ..] if are_a_stack(first, rest) => first.intersect_all_by_rank(rest),
+        [first, rest @ ..] if are_a_stack(first, rest) => first.try_intersect_all_by_rank(rest),
         _ => Err(MaskError::LengthOverflow),
     }
 }
@@ -97,7 +97,7 @@ pub fn of_common(len: usize, lhs: &[usize], rhs: &[usize]) -> Result<Mask, MaskE
     if !ascends(lhs) || !ascends(rhs) {
         return Err(MaskError::LengthOverflow);
     }
-    Mask::from_intersection_indices(len, lhs.iter().copied(), rhs.iter().copied())
+    Mask::try_from_intersection_indices(len, lhs.iter().copied(), rhs.iter().copied())
 }
 
 // Whether each index is above the one before it.

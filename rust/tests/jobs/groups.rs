@@ -19,9 +19,9 @@ pub fn run(numbers: &mut Numbers, rounds: u32, digest: &mut Digest) -> Result<()
     for _ in 0..rounds {
         let gap = 500 << numbers.below(5);
         let ranges = ranges(numbers, gap)?;
-        let file = Mask::from_slices(ROWS, ranges)?;
+        let file = Mask::try_from_slices(ROWS, ranges)?;
         let size = 1024 << numbers.below(4);
-        let groups = file.groups(size)?;
+        let groups = file.try_groups(size)?;
         let kept = kept(&groups, &bitmap, numbers, digest)?;
         digest.add_mask(&Mask::concat(kept.iter())?);
         offsets(&file, size, digest)?;
@@ -58,7 +58,7 @@ fn kept(
 ) -> Result<Vec<Mask>, MaskError> {
     let mut kept = Vec::new();
     for group in groups {
-        let share = group.density();
+        let share = group.share();
         digest.add_count(share.num);
         if group.all_false() {
             kept.try_push(Mask::new_false(group.len()))?;
@@ -69,7 +69,7 @@ fn kept(
         let limit = numbers.below(group.len().max(1));
         let half = slice(&left, group.len() / 3, group.len())?;
         digest.add_count(half.true_count());
-        kept.try_push(left.limit(limit)?)?;
+        kept.try_push(left.try_limit(limit)?)?;
     }
     Ok(kept)
 }

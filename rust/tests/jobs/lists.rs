@@ -35,7 +35,7 @@ pub fn run(numbers: &mut Numbers, rounds: u32, digest: &mut Digest) -> Result<()
         let len = 1000 + numbers.below(60_000);
         let first = part(&indexes.first, from, len);
         let second = part(&indexes.second, from, len);
-        let mut mask = Mask::from_indices(ROWS, first.iter().copied())?;
+        let mut mask = Mask::try_from_indices(ROWS, first.iter().copied())?;
         digest.add_mask(&mask);
         let common = of_common(ROWS, first, second)?;
         digest.add_mask(&common);
@@ -67,9 +67,9 @@ fn read(codes: &[u8], mask: &mut Mask, round: u32, digest: &mut Digest) -> Resul
     let shares = [7, 14, 28, 56, 112];
     let share = shares[(round % 5) as usize];
     let codes = part(codes, round as usize % 1024, mask.true_count());
-    let mut ranks = Mask::from_rows(codes, |code| *code < share)?;
+    let mut ranks = Mask::try_from_rows(codes, |code| *code < share)?;
     if round % 2 == 0 {
-        listed(ranks.threshold_iter(1, 1)?, digest);
+        listed(ranks.try_threshold_iter(1, 1)?, digest);
     }
     let narrowed = narrow(mask, &ranks)?;
     let mut walked = 0u64;
@@ -89,7 +89,7 @@ fn left(
 ) -> Result<(), MaskError> {
     let rows = NEAR + 1 + numbers.below(200_000);
     let few = deleted.iter().map(|index| *index & NEAR);
-    let mut left = Mask::from_excluded_indices(rows, few)?;
+    let mut left = Mask::try_from_excluded_indices(rows, few)?;
     if round % 4 == 0 {
         let mut walked = 0u64;
         for range in left.set_slices() {
@@ -98,7 +98,7 @@ fn left(
         digest.add(walked);
     }
     let den = 1 + numbers.below(2);
-    listed(left.threshold_iter(1, den)?, digest);
+    listed(left.try_threshold_iter(1, den)?, digest);
     Ok(())
 }
 

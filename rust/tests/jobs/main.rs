@@ -1,6 +1,6 @@
 //! The jobs of the benchmark on masks of this package. `JOB SEED ROUNDS` prints a digest of all answers of a job, as
 //! the program `mask_bench` does. As a test it does each job, and compares the digests with those of `mask_bench`.
-#![allow(clippy::all, clippy::pedantic, dead_code, unused_imports, unused_variables)]
+#![allow(clippy::all, clippy::pedantic, dead_code, unused_imports, unused_mut, unused_variables)]
 
 mod awkward;
 mod bitmaps;

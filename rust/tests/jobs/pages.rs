@@ -24,7 +24,7 @@ pub fn bitmap(numbers: &mut Numbers) -> Result<BitBuffer, AllocError> {
         }
     }
     let len = 8 * bytes.len().min(8 * WORDS as usize);
-    BitBuffer::from_vec(bytes, len)
+    BitBuffer::try_from_vec(bytes, len)
 }
 
 // A word of a kind of bits.
@@ -48,5 +48,5 @@ pub fn page(bitmap: &BitBuffer, numbers: &mut Numbers, len: usize) -> Result<Mas
     let len = len.min(bitmap.len());
     let spare = bitmap.len() - len;
     let start = if spare == 0 { 0 } else { numbers.below(spare) };
-    Mask::from_buffer(bitmap.slice(start, start + len)?)
+    Mask::try_from_buffer(bitmap.try_slice(start, start + len)?)
 }

@@ -32,14 +32,14 @@ pub fn run(numbers: &mut Numbers, rounds: u32, digest: &mut Digest) -> Result<()
 // Three columns, each tested at the rows that the ones before it left.
 fn columns(table: &Table, start: usize, numbers: &mut Numbers) -> Result<Mask, MaskError> {
     let limit = numbers.share();
-    let first = Mask::from_rows(part(&table.counts, start, BATCH), |it| *it < limit)?;
+    let first = Mask::try_from_rows(part(&table.counts, start, BATCH), |it| *it < limit)?;
     let keys = choose(&first, part(&table.keys, start, BATCH))?;
     let limit = u64::from(numbers.share()) << 32;
-    let second = Mask::from_rows(&keys, |it| *it < limit)?;
+    let second = Mask::try_from_rows(&keys, |it| *it < limit)?;
     let both = narrow(&first, &second)?;
     let codes = choose(&both, part(&table.codes, start, BATCH))?;
     let limit = (numbers.share() >> 24) as u8;
-    let third = Mask::from_rows(&codes, |it| *it <= limit)?;
+    let third = Mask::try_from_rows(&codes, |it| *it <= limit)?;
     narrow(&both, &third)
 }
 
@@ -50,7 +50,7 @@ fn stack(table: &Table, start: usize, numbers: &mut Numbers) -> Result<Mask, Mas
     let mut masks = Vec::new();
     for test in 0..tests {
         let limit = 10 + numbers.below(22) as u64;
-        let mask = Mask::from_rows(&left, |it| (*it >> (5 * test % 60)) & 31 < limit)?;
+        let mask = Mask::try_from_rows(&left, |it| (*it >> (5 * test % 60)) & 31 < limit)?;
         left = choose(&mask, &left)?;
         masks.try_push(mask)?;
     }
@@ -63,10 +63,10 @@ fn days(table: &Table, start: usize, numbers: &mut Numbers) -> Result<Mask, Mask
     let day = days.first().copied().unwrap_or(0);
     let first_day = day.saturating_add(numbers.below(40) as u32);
     let last_day = first_day.saturating_add(numbers.below(60) as u32);
-    let first = Mask::from_rows(days, |it| *it >= first_day && *it <= last_day)?;
+    let first = Mask::try_from_rows(days, |it| *it >= first_day && *it <= last_day)?;
     let codes = choose(&first, part(&table.codes, start, BATCH))?;
     let limit = (numbers.share() >> 24) as u8;
-    let second = Mask::from_rows(&codes, |it| *it <= limit)?;
+    let second = Mask::try_from_rows(&codes, |it| *it <= limit)?;
     narrow(&first, &second)
 }
 

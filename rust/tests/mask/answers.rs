@@ -44,7 +44,7 @@ fn errors_say_what_is_wrong() {
 
 #[test]
 fn errors_are_copied_and_boxed() {
-    let error = Mask::from_indices(3, [2, 1]).unwrap_err();
+    let error = Mask::try_from_indices(3, [2, 1]).unwrap_err();
     let copy = error;
     assert_eq!(Clone::clone(&copy), error);
     let boxed: Box<dyn Error + Send + Sync> = error.into();
@@ -66,9 +66,9 @@ fn answers_are_copied_and_told() {
 
 #[test]
 fn lent_lists_are_copied_and_told() {
-    let mut mask = Mask::from_indices(9, [1, 2, 5]).unwrap();
+    let mask = Mask::try_from_indices(9, [1, 2, 5]).unwrap();
     for (num, text) in [(1, "Some(Indices([1, 2, 5]))"), (0, "Some(Slices([(1, 3), (5, 6)]))")] {
-        let lent = mask.threshold_iter(num, 2).unwrap();
+        let lent = mask.try_threshold_iter(num, 2).unwrap();
         let copy = lent;
         assert_eq!(format!("{lent:?}"), text);
         assert_eq!(format!("{:?}", Clone::clone(&copy)), text);
@@ -87,16 +87,16 @@ fn long_lists_are_told_by_their_first_items() {
         let buffer: BitBuffer = (0..len).map(|i| i >= 63).collect();
         assert_eq!(format!("{buffer:?}"), text);
     }
-    let mut mask: Mask = (0..1000).map(|i| i % 2 == 0).collect();
+    let mask: Mask = (0..1000).map(|i| i % 2 == 0).collect();
     let first: Vec<_> = (0..128).step_by(2).collect();
-    let lent = mask.threshold_iter(1, 1).unwrap();
+    let lent = mask.try_threshold_iter(1, 1).unwrap();
     assert_eq!(format!("{lent:?}"), format!("Some(Indices {{ len: 500, first: {first:?} }})"));
     let first: Vec<_> = first.iter().map(|i| (*i, i + 1)).collect();
-    let lent = mask.threshold_iter(0, 1).unwrap();
+    let lent = mask.try_threshold_iter(0, 1).unwrap();
     assert_eq!(format!("{lent:?}"), format!("Some(Slices {{ len: 500, first: {first:?} }})"));
     let all: Vec<_> = (0..64).collect();
-    let mut mask = Mask::from_indices(100, 0..64).unwrap();
-    let lent = mask.threshold_iter(1, 1).unwrap();
+    let mask = Mask::try_from_indices(100, 0..64).unwrap();
+    let lent = mask.try_threshold_iter(1, 1).unwrap();
     assert_eq!(format!("{lent:?}"), format!("Some(Indices({all:?}))"));
 }
 

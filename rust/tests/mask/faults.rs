@@ -15,16 +15,16 @@ fn are_told_behind_any_number() {
     for len in (0..200).chain([4_095, 65_537, 1_048_583]) {
         let and = |index| (0..len).chain([index]);
         if len > 0 {
-            refused(Mask::from_indices(len, and(len - 1)), RepeatedIndex { at: len });
+            refused(Mask::try_from_indices(len, and(len - 1)), RepeatedIndex { at: len });
         }
         if len > 1 {
-            refused(Mask::from_indices(len, and(0)), UnsortedIndices { at: len });
+            refused(Mask::try_from_indices(len, and(0)), UnsortedIndices { at: len });
         }
         for index in [len, len + 1, len + 70, usize::MAX] {
             let past = IndexOutOfBounds { index, len };
-            refused(Mask::from_indices(len, and(index)), past);
-            refused(Mask::from_excluded_indices(len, and(index)), past);
-            refused(Mask::from_intersection_indices(len, and(index), and(index)), past);
+            refused(Mask::try_from_indices(len, and(index)), past);
+            refused(Mask::try_from_excluded_indices(len, and(index)), past);
+            refused(Mask::try_from_intersection_indices(len, and(index), and(index)), past);
         }
     }
 }
@@ -32,6 +32,6 @@ fn are_told_behind_any_number() {
 /// Of more groups than there is memory for, none is made first.
 #[test]
 fn too_many_groups_are_refused() {
-    refused(Mask::new_true(usize::MAX).groups(1), Memory(AllocError));
-    refused(Mask::new_false(usize::MAX).groups(9), Memory(AllocError));
+    refused(Mask::new_true(usize::MAX).try_groups(1), Memory(AllocError));
+    refused(Mask::new_false(usize::MAX).try_groups(9), Memory(AllocError));
 }

@@ -47,7 +47,7 @@ fn equal_keys_are_one() {
         Mask::AllTrue(65),
     ];
     assert_eq!(HashSet::from(masks).len(), 4);
-    let offset = BitBuffer::from(&[true, true, false][..]).slice(1, 3).unwrap();
+    let offset = BitBuffer::from(&[true, true, false][..]).try_slice(1, 3).unwrap();
     assert!(HashSet::from([offset]).contains(&BitBuffer::from(vec![true, false])));
 }
 

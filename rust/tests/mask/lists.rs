@@ -35,15 +35,15 @@ pub fn masks(list: &[bool]) -> Vec<Mask> {
     let len = list.len();
     let indices = || (0..len).filter(|i| list[*i]);
     let mut masks: Vec<Mask> =
-        buffers(list).into_iter().map(|it| Mask::from_buffer(it).unwrap()).collect();
-    masks.push(Mask::from_bools(list.iter().copied()).unwrap());
-    masks.push(Mask::from_indices(len, indices()).unwrap());
-    masks.push(Mask::from_slices(len, indices().map(|i| (i, i + 1)).collect()).unwrap());
-    masks.push(Mask::from_excluded_indices(len, (0..len).filter(|i| !list[*i])).unwrap());
-    let mut cached = Mask::from_bools(list.iter().copied()).unwrap();
-    cached.indices().unwrap();
+        buffers(list).into_iter().map(|it| Mask::try_from_buffer(it).unwrap()).collect();
+    masks.push(Mask::try_from_bools(list.iter().copied()).unwrap());
+    masks.push(Mask::try_from_indices(len, indices()).unwrap());
+    masks.push(Mask::try_from_slices(len, indices().map(|i| (i, i + 1)).collect()).unwrap());
+    masks.push(Mask::try_from_excluded_indices(len, (0..len).filter(|i| !list[*i])).unwrap());
+    let cached = Mask::try_from_bools(list.iter().copied()).unwrap();
+    cached.try_indices().unwrap();
     masks.push(cached.try_clone().unwrap());
-    cached.slices().unwrap();
+    cached.try_slices().unwrap();
     masks.push(cached);
     if list.is_empty() {
         masks.extend([Mask::AllTrue(0), Mask::AllFalse(0)]);

@@ -7,6 +7,7 @@ mod hashes;
 mod lists;
 mod makers;
 mod operators;
+mod threads;
 mod walks;
 
 use std::any::Any;

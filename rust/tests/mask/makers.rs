@@ -16,7 +16,7 @@ fn of_values() {
             BitBuffer::from(list.clone()),
             list.iter().copied().collect(),
             list.iter().copied().filter(|_| true).collect(),
-            list.iter().copied().collect::<BitBufferMut>().freeze().unwrap(),
+            list.iter().copied().collect::<BitBufferMut>().try_freeze().unwrap(),
         ];
         for buffer in made {
             assert_eq!(values(&buffer), list);
@@ -44,7 +44,8 @@ fn of_masks() {
     let longest = [Mask::AllTrue(usize::MAX - 1), Mask::AllTrue(1)];
     assert!(matches!(longest.into_iter().collect(), Mask::AllTrue(usize::MAX)));
     let too_long = || [Mask::AllTrue(usize::MAX), Mask::AllFalse(1)].into_iter().collect::<Mask>();
-    assert_eq!(said(too_long).as_deref(), Some("the sum of the lengths does not fit"));
+    let text = "row_mask: `from_masks`: the sum of the lengths does not fit";
+    assert_eq!(said(too_long).as_deref(), Some(text));
 }
 
 #[test]
@@ -57,7 +58,7 @@ fn builders_grow() {
         assert_eq!(builder.len(), list.len());
     }
     assert_eq!(format!("{builder:?}"), format!("BitBufferMut {{ len: {}, .. }}", list.len()));
-    assert_eq!(values(&builder.freeze().unwrap()), list);
+    assert_eq!(values(&builder.try_freeze().unwrap()), list);
 }
 
 #[test]

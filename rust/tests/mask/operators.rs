@@ -55,12 +55,12 @@ fn of_masks() {
 fn as_by_name() {
     for list in lists().iter().filter(|it| it.len() == 4 || it.len() > 64) {
         for (a, b) in masks(list).iter().zip(masks(&other(list)).iter().rev()) {
-            same(&(a & b), &a.bitand(b).unwrap());
-            same(&(a | b), &a.bitor(b).unwrap());
-            same(&(a.clone() & b), &a.clone().into_bitand(b).unwrap());
-            same(&(a.clone() | b), &a.clone().into_bitor(b).unwrap());
-            same(&!a, &a.not().unwrap());
-            same(&!a.clone(), &a.clone().into_not().unwrap());
+            same(&(a & b), &a.try_bitand(b).unwrap());
+            same(&(a | b), &a.try_bitor(b).unwrap());
+            same(&(a.clone() & b), &a.clone().try_into_bitand(b).unwrap());
+            same(&(a.clone() | b), &a.clone().try_into_bitor(b).unwrap());
+            same(&!a, &a.try_not().unwrap());
+            same(&!a.clone(), &a.clone().try_into_not().unwrap());
             same(&a.clone(), a);
         }
     }
@@ -121,8 +121,8 @@ fn of_two_lengths_panic() {
 fn lent_buffers_are_cloned() {
     let mask: Mask = [true, false].into_iter().collect();
     assert_eq!(
-        mask.bit_buffer().cloned().unwrap(),
+        mask.bit_buffer().try_cloned().unwrap(),
         AllOr::Some(BitBuffer::from(vec![true, false]))
     );
-    assert_eq!(AllOr::Some(&mask).cloned().unwrap(), AllOr::Some(mask));
+    assert_eq!(AllOr::Some(&mask).try_cloned().unwrap(), AllOr::Some(mask));
 }

@@ -63,7 +63,7 @@ fn mask_call_that_aborts(name: &str) {
     let len = 8 * (600 << 20);
     let mut bytes = vec![0; len / 8];
     bytes[0] = 1;
-    let rows = Mask::from(BitBuffer::from_vec(bytes, len).unwrap());
+    let rows = Mask::from(BitBuffer::from_vec(bytes, len));
     let same = rows.clone();
     let len = match name {
         "and" => (&rows & &same).len(),
@@ -75,9 +75,20 @@ fn mask_call_that_aborts(name: &str) {
         "collect masks" => [rows, same].into_iter().collect::<Mask>().len(),
         "collect values" => iter::repeat_n(true, 1 << 40).collect::<Mask>().len(),
         "to_string" => rows.to_string().len(),
+        "from_indices" => Mask::from_indices(len, [1]).len(),
+        "from_slices" => Mask::from_slices(len, vec![(1, 2)]).len(),
+        "to_limited" => rows.to_limited(0).len() + Mask::AllTrue(len).to_limited(3).len(),
+        "bitand_not" => rows.bitand_not(&same).len(),
+        "intersect_by_rank" => Mask::AllTrue(len).intersect_by_rank(&rows).len() + (!&rows).len(),
+        "to_bit_buffer" => Mask::AllTrue(len).to_bit_buffer().len(),
+        "indices of its own" => {
+            let most = Mask::from_buffer(BitBuffer::from_vec(vec![0x7F; len / 64], len / 8));
+            drop((rows, same));
+            most.values().unwrap().indices().len()
+        }
         "extend" => {
             drop((rows, same));
-            let mut builder = BitBufferMut::new_unset(len).unwrap();
+            let mut builder = BitBufferMut::new_unset(len);
             builder.extend([true; 9]);
             builder.len()
         }
@@ -137,7 +148,16 @@ fn operators_and_makers_of_masks_abort() {
     }
     let operators = ["and", "or", "not", "and of a clone", "or of a clone", "not of a clone"];
     let others = ["collect masks", "collect values", "to_string", "extend"];
-    for name in operators.into_iter().chain(others) {
+    let plain = [
+        "from_indices",
+        "from_slices",
+        "to_limited",
+        "bitand_not",
+        "intersect_by_rank",
+        "to_bit_buffer",
+        "indices of its own",
+    ];
+    for name in operators.into_iter().chain(others).chain(plain) {
         aborts("operators_and_makers_of_masks_abort", name);
     }
 }

@@ -33,6 +33,7 @@ impl<T> AllOr<T> {
 
 impl<T: Clone> AllOr<&T> {
     /// Clones the value behind the reference, which its clones have to equal.
+    // rust: named try_cloned
     pub fn cloned(self) -> Result<AllOr<T>, MaskError>
         requires { ForValue self (λ x. IsOnlyClone T.is_clone x.now) }
         ensures same { IfOk result (λ a. a ≡ all_or_copied self.entry) }

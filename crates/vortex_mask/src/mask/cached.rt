@@ -31,6 +31,8 @@ pub enum MaskIter<'a> {
 /// Where memory is out the mask stays as it was.
 impl Mask {
     /// `All`, `None` or the true indices, ascending, by variant.
+    // rust: named try_indices
+    // rust: by hand
     pub fn indices(&mut self, alloc: Global) -> Result<AllOr<&[usize]>, MaskError>
         ensures variant { IfOk result (λ lent. lender_variant lent ≡ variant self.old) }
         ensures list { IfOk result (λ lent. IfLent lent
@@ -55,6 +57,8 @@ impl Mask {
 
     /// `All`, `None` or the runs of true indices, ascending, by variant. Each is its first index and the index past its
     /// last. Equal masks that are mixed lend equal ranges, however they were made.
+    // rust: named try_slices
+    // rust: by hand
     pub fn slices(&mut self, alloc: Global) -> Result<AllOr<&[(usize, usize)]>, MaskError>
         ensures variant { IfOk result (λ lent. lender_variant lent ≡ variant self.old) }
         ensures list { IfOk result (λ lent. IfLent lent
@@ -79,6 +83,8 @@ impl Mask {
 
     /// `All`, `None` or a list, by variant: the ranges of `slices` where the share of true values is
     /// `num / den` or more, else the list of `indices`. The comparison is exact.
+    // rust: named try_threshold_iter
+    // rust: by hand
     pub fn threshold_iter(
         &mut self,
         alloc: Global,
@@ -117,6 +123,7 @@ impl Mask {
 
     // Caches the runs, or the true indices, where the mask is mixed. Values that nobody else holds cache
     // them in place, and else the mask becomes one of a clone with them.
+    // rust: by hand
     fn fill(&mut self, alloc: Global, by_ranges: bool) -> Result<(), MaskError>
         ensures filled { IfOk result (λ _. variant self.old ≡ mixed → IsCaching self.old
             (with_made by_ranges (truth self.old) (caches self.old)) self.new) }

@@ -17,6 +17,7 @@ const FAR: usize = 256;
 #[tactic(auto, using(crate::proofs::Masks::MaskLemmas::chosen_value_facts, crate::proofs::Masks::MaskLemmas::count_facts))]
 impl Mask {
     /// The rows at the true indices, in their order.
+    // rust: named try_choose
     pub fn choose<T: Copy>(&self, alloc: Global, rows: &[T]) -> Result<Vec<T>, MaskError>
         requires { length rows.now ≡ length (truth self.now) }
         ensures rows { IfOk result (λ v. v.items ≡ chosen rows.now (truth self.now)) }

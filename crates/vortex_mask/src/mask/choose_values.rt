@@ -19,6 +19,7 @@ impl Mask {
     /// predicate that was evaluated on all rows: narrowed by it, this mask is its `and` with `of`.
     ///
     /// Where this mask is all true, the result is a clone of `of`.
+    // rust: named try_choose_values
     pub fn choose_values(&self, alloc: Global, of: &Mask) -> Result<Mask, MaskError>
         requires { length (truth of.now) ≡ length (truth self.now) }
         ensures list { IfOk result (λ m. truth m ≡ chosen (truth of.now) (truth self.now)) }

@@ -48,6 +48,7 @@ impl Mask {
 
     /// The values of the masks that an iterator yields, one mask after another, as by `concat`. The
     /// masks are taken by value.
+    // rust: named try_from_masks
     pub fn from_masks<I: Iterator<Item = Mask>>(alloc: Global, masks: I) -> Result<Mask, MaskError>
         requires can { I.can_next masks }
         requires ends { IsFinite (I.remaining masks) }

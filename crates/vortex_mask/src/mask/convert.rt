@@ -23,6 +23,7 @@ use std::alloc::Global;
 #[tactic(auto, using(crate::proofs::Masks::MaskLemmas::variant_facts))]
 impl Mask {
     /// The values of a buffer. An empty one gives `AllFalse(0)`.
+    // rust: named try_from_buffer
     pub fn from_buffer(alloc: Global, buffer: BitBuffer) -> Result<Mask, MaskError>
         ensures list { IfOk result (λ m. truth m ≡ values buffer) }
         ensures variant { IfOk result (λ m. variant m ≡ fitting_variant all_false (values buffer)) }
@@ -37,6 +38,7 @@ impl Mask {
     /// The values of a buffer, whose true indices these ranges hold. Where some values are true and
     /// some are not the mask caches its runs: ranges that touch are merged, in the memory
     /// that came with them. An empty buffer gives `AllFalse(0)`.
+    // rust: named try_from_buffer_with_slices
     pub fn from_buffer_with_slices(
         alloc: Global,
         buffer: BitBuffer,
@@ -56,6 +58,7 @@ impl Mask {
     }
 
     /// The values that an iterator yields, in their order. No values give `AllFalse(0)`.
+    // rust: named try_from_bools
     pub fn from_bools<I: Iterator<Item = bool>>(alloc: Global, bools: I) -> Result<Mask, MaskError>
         requires can { I.can_next bools }
         requires ends { UpTo (I.remaining bools) usize.MAX }
@@ -72,6 +75,7 @@ impl Mask {
     /// What a test answers of each row, in their order: value `i` is its answer of row `i`. No rows give `AllFalse(0)`.
     ///
     /// The filter of a column by a test of its rows, such as `|row| *row > low`.
+    // rust: named try_from_rows
     pub fn from_rows<T, F: Fn(&T) -> bool>(
         alloc: Global,
         rows: &[T],
@@ -106,6 +110,7 @@ impl Mask {
     }
 
     /// A buffer of the values.
+    // rust: named try_to_bit_buffer
     pub fn to_bit_buffer(&self, alloc: Global) -> Result<BitBuffer, MaskError>
         ensures list { IfOk result (λ b. values b ≡ truth self.now) }
         ensures refused { IsOkUnless result (MaskError.Memory alloc_error) }
@@ -118,6 +123,7 @@ impl Mask {
     }
 
     /// A buffer of the values, of a mask that is taken by value.
+    // rust: named try_into_bit_buffer
     pub fn into_bit_buffer(self, alloc: Global) -> Result<BitBuffer, MaskError>
         ensures list { IfOk result (λ b. values b ≡ truth self) }
         ensures refused { IsOkUnless result (MaskError.Memory alloc_error) }

@@ -30,6 +30,7 @@ impl Fraction {
 impl Mask {
     /// The share of true values: 1/1 of `AllTrue`, 0/1 of `AllFalse`, also where they are empty, and
     /// else the true count over the length.
+    // rust: named share
     pub fn density(&self) -> Fraction
         ensures by_variant { result ≡ share_by_variant self.now }
         ensures share { result.num * length (truth self.now) ≡ count (truth self.now) * result.den }
@@ -45,6 +46,7 @@ impl Mask {
 
 impl MaskValues {
     /// The share of true values: the true count over the length.
+    // rust: named share
     pub fn density(&self) -> Fraction
         ensures share { result ≡ share (values self.now.buffer) }
         ensures positive { 0 < result.den }

@@ -25,6 +25,7 @@ impl Mask {
     /// The iterator is read to its end first, so `Memory` may come before the other refusals:
     /// `UnsortedIndices` for the first place below the one before it, else `RepeatedIndex` for the
     /// first that equals it, else `IndexOutOfBounds` for the first that is not below `len`.
+    // rust: named try_from_indices
     #[tactic(auto, using(crate::proofs::Masks::FaultLemmas::no_index_fault))]
     pub fn from_indices<I: Iterator<Item = usize>>(
         alloc: Global,
@@ -118,6 +119,7 @@ impl Mask {
     ///
     /// The values are made first, so `Memory` may come before the other refusal:
     /// `IndexOutOfBounds` for the first index, as the iterator has them, that is not below `len`.
+    // rust: named try_from_excluded_indices
     pub fn from_excluded_indices<I: Iterator<Item = usize>>(
         alloc: Global,
         len: usize,
@@ -190,6 +192,7 @@ impl Mask {
     /// An index that only one of them yields is dropped, past `len` too. The iterators are read to
     /// their ends first, so `Memory` may come before the other refusal: `IndexOutOfBounds` for the
     /// first index in common that is not below `len`.
+    // rust: named try_from_intersection_indices
     #[tactic(auto, using(crate::proofs::Masks::FaultLemmas::listed_facts))]
     pub fn from_intersection_indices<L: Iterator<Item = usize>, R: Iterator<Item = usize>>(
         alloc: Global,

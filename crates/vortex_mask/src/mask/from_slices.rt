@@ -24,6 +24,7 @@ impl Mask {
     /// All ranges are tested before any memory is taken: `BadRange` is reported of the first that is
     /// empty or passes the length, else `UnsortedRanges` or `OverlappingRanges` of the first that
     /// does not start after the start of the one before it, or starts below its end.
+    // rust: named try_from_slices
     pub fn from_slices(
         alloc: Global,
         len: usize,

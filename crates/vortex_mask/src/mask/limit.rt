@@ -17,6 +17,7 @@ use std::alloc::{AllocError, Global};
 #[tactic(auto, using(crate::proofs::Masks::MaskLemmas::variant_facts, crate::proofs::Masks::MaskLemmas::part_facts))]
 impl Mask {
     /// The first `k` true values, and false ones from there on. A mask that has no more true ones stays as it is.
+    // rust: named try_limit
     pub fn limit(self, alloc: Global, k: usize) -> Result<Mask, MaskError>
         ensures list { IfOk result (λ m. truth m ≡ limited (truth self) k) }
         ensures len { IfOk result (λ m. length (truth m) ≡ length (truth self)) }
@@ -39,6 +40,7 @@ impl Mask {
 
     /// The first `k` true values of a mask that is only lent, and false ones from there on. The
     /// result is a clone of a mask that has no more true ones.
+    // rust: named try_to_limited
     pub fn to_limited(&self, alloc: Global, k: usize) -> Result<Mask, MaskError>
         ensures list { IfOk result (λ m. truth m ≡ limited (truth self.now) k) }
         ensures len { IfOk result (λ m. length (truth m) ≡ length (truth self.now)) }

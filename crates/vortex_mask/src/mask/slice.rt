@@ -17,6 +17,7 @@ use std::alloc::Global;
 #[tactic(auto, using(crate::proofs::Masks::MaskLemmas::variant_facts, crate::proofs::Masks::MaskLemmas::part_facts))]
 impl Mask {
     /// The values `start..end`. The whole mask has its cached lists, and any other part has none.
+    // rust: named try_slice
     pub fn slice(&self, alloc: Global, start: usize, end: usize) -> Result<Mask, MaskError>
         requires ordered { start ≤ end }
         requires within { end ≤ length (truth self.now) }
@@ -51,6 +52,7 @@ impl Mask {
 impl Mask {
     /// A mask for each group of `size` values, as for the row groups of a file or the batches of a
     /// scan. The last group may have fewer values, and no values give no group.
+    // rust: named try_groups
     pub fn groups(&self, alloc: Global, size: usize) -> Result<Vec<Mask>, MaskError>
         requires { 0 < size }
         ensures groups { IfOk result (λ v. map truth v.items ≡ map (group (truth self.now) size)

@@ -15,6 +15,7 @@ ghost use Rattle.vortex_mask.specs.Ranges.{rows_held};
 ghost use Rattle.vortex_mask.specs.Text.{counts_text};
 ghost use Rattle.vortex_mask.specs.contracts.mask.values.MaskValues.{the_row};
 
+use crate::cached_list::{Cached, cached};
 use crate::mask::{MaskError, MaskIter};
 use mask_bits::{BitBuffer, laws};
 use std::alloc::{AllocError, Global};
@@ -32,8 +33,10 @@ pub type MaskValuesRef = Rc<MaskValues>;
 pub struct MaskValues {
     buffer: BitBuffer,
     true_count: usize,
-    indices: Option<Vec<usize>>,
-    slices: Option<Vec<(usize, usize)>>,
+    // rust: visible
+    indices: Cached<usize>,
+    // rust: visible
+    slices: Cached<(usize, usize)>,
 }
 
 impl Model for MaskValues {
@@ -75,8 +78,8 @@ impl MaskValues {
         MaskValues {
             buffer,
             true_count,
-            indices,
-            slices,
+            indices: cached(indices),
+            slices: cached(slices),
         }
     }
 
@@ -181,6 +184,8 @@ impl MaskValues {
 /// Where being out of memory refuses one, the cached lists stay as they were.
 impl MaskValues {
     /// The true indices, ascending.
+    // rust: named try_indices
+    // rust: by hand
     pub fn indices(&mut self, alloc: Global) -> Result<&[usize], MaskError>
         ensures list { IfOk result (λ indices. indices.now ≡ positions (values self.old.buffer)) }
 
@@ -197,6 +202,8 @@ impl MaskValues {
     }
 
     /// The runs of true indices, ascending. Each is its first index and the index past its last.
+    // rust: named try_slices
+    // rust: by hand
     pub fn slices(&mut self, alloc: Global) -> Result<&[(usize, usize)], MaskError>
         ensures list { IfOk result (λ ranges. ranges.now ≡ runs (values self.old.buffer)) }
 
@@ -214,6 +221,8 @@ impl MaskValues {
 
     /// The ranges of `slices` where the share of true values is `num / den` or more, else the list of
     /// `indices`. The comparison is exact.
+    // rust: named try_threshold_iter
+    // rust: by hand
     pub fn threshold_iter(
         &mut self,
         alloc: Global,
@@ -250,6 +259,7 @@ impl MaskValues {
     }
 
     // The runs, or the true indices, which are cached.
+    // rust: by hand
     pub(super) fn lend_list(&self, by_ranges: bool) -> MaskIter<'_>
         requires ranges { by_ranges ≡ true → IsSome self.now.caches.ranges }
         requires indices { by_ranges ≡ false → IsSome self.now.caches.indices }
@@ -265,6 +275,7 @@ impl MaskValues {
     }
 
     // Whether the runs, or the true indices, are cached.
+    // rust: by hand
     pub(super) fn has_list(&self, by_ranges: bool) -> bool
         ensures has { IsTrue result ↔ HasList by_ranges self.now.caches }
         ensures made { IsTrue result → with_made by_ranges (values self.now.buffer) self.now.caches
@@ -278,6 +289,7 @@ impl MaskValues {
     }
 
     // Makes the list of the runs, or of the true indices, then caches it, where there is none.
+    // rust: by hand
     pub(super) fn cache_list(&mut self, alloc: Global, by_ranges: bool) -> Result<(), MaskError>
         ensures filled { IfOk result (λ _. self.new ≡ with_caches
             (with_made by_ranges (values self.old.buffer) self.old.caches) self.old) }
@@ -297,6 +309,7 @@ impl MaskValues {
     }
 
     // A clone with that list cached.
+    // rust: by hand
     pub(super) fn with_list(&self, alloc: Global, by_ranges: bool) -> Result<MaskValues, MaskError>
         ensures filled { IfOk result (λ v. v ≡ with_caches
             (with_made by_ranges (values self.now.buffer) self.now.caches) self.now) }
@@ -320,6 +333,7 @@ impl MaskValues {
     }
 
     // The runs of true indices: by a walk where few values are true, of which most words have none.
+    // rust: visible
     fn runs(&self, alloc: Global) -> Result<Vec<(usize, usize)>, AllocError>
         ensures { IfOk result (λ ranges. ranges.items ≡ runs (values self.now.buffer)) }
     {

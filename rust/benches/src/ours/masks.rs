@@ -11,16 +11,16 @@ pub fn call<'a>(lists: &'a Lists, name: &str) -> Option<Call<'a>> {
     let (len, half) = (lists.len, lists.half());
     Some(match name {
         "Mask::intersect_by_rank" => {
-            Box::new(move || byte(&a.intersect_by_rank(&ranks).unwrap(), len - 1))
+            Box::new(move || byte(&a.try_intersect_by_rank(&ranks).unwrap(), len - 1))
         }
-        "Mask::bitand" => Box::new(move || byte(&a.bitand(&b).unwrap(), len - 1)),
-        "Mask::bitor" => Box::new(move || byte(&a.bitor(&b).unwrap(), len - 1)),
-        "Mask::not" => Box::new(move || byte(&a.not().unwrap(), len - 1)),
-        "Mask::to_bitand_not" => Box::new(move || byte(&a.to_bitand_not(&b).unwrap(), len - 1)),
+        "Mask::bitand" => Box::new(move || byte(&a.try_bitand(&b).unwrap(), len - 1)),
+        "Mask::bitor" => Box::new(move || byte(&a.try_bitor(&b).unwrap(), len - 1)),
+        "Mask::not" => Box::new(move || byte(&a.try_not().unwrap(), len - 1)),
+        "Mask::to_bitand_not" => Box::new(move || byte(&a.try_to_bitand_not(&b).unwrap(), len - 1)),
         "Mask::indices" => {
             let bare = bare(&a);
             Box::new(move || {
-                let AllOr::Some(indices) = a.indices().unwrap() else { unreachable!() };
+                let AllOr::Some(indices) = a.try_indices().unwrap() else { unreachable!() };
                 let digest = listed(indices.len(), indices.last().copied().unwrap_or(0));
                 forget(&mut a, &bare);
                 digest
@@ -29,7 +29,7 @@ pub fn call<'a>(lists: &'a Lists, name: &str) -> Option<Call<'a>> {
         "Mask::slices" => {
             let bare = bare(&a);
             Box::new(move || {
-                let AllOr::Some(runs) = a.slices().unwrap() else { unreachable!() };
+                let AllOr::Some(runs) = a.try_slices().unwrap() else { unreachable!() };
                 let digest = listed(2 * runs.len(), runs.last().map_or(0, |(_, end)| *end));
                 forget(&mut a, &bare);
                 digest
@@ -37,10 +37,10 @@ pub fn call<'a>(lists: &'a Lists, name: &str) -> Option<Call<'a>> {
         }
         "Mask::to_limited" => {
             let (count, at) = half;
-            Box::new(move || byte(&a.to_limited(count).unwrap(), at))
+            Box::new(move || byte(&a.try_to_limited(count).unwrap(), at))
         }
         "Mask::concat" => {
-            let part = a.slice(0, len - 1).unwrap();
+            let part = a.try_slice(0, len - 1).unwrap();
             Box::new(move || byte(&Mask::concat([&part, &b]).unwrap(), 2 * len - 2))
         }
         _ => return None,
@@ -60,7 +60,7 @@ pub fn beside<'a>(lists: &'a Lists, name: &str) -> Option<Call<'a>> {
 }
 
 fn of(list: &[bool]) -> Mask {
-    Mask::from_rows(list, |value| *value).unwrap()
+    Mask::try_from_rows(list, |value| *value).unwrap()
 }
 
 fn bare(mask: &Mask) -> MaskValues {

@@ -32,7 +32,7 @@ impl<'a> MaskArgument<'a> {
             return Ok(Mask::new_false(0));
         }
         let digits = self.text.as_bytes().iter().copied();
-        Ok(Mask::from_bools(digits.map(|digit| digit == b'1'))?)
+        Ok(Mask::try_from_bools(digits.map(|digit| digit == b'1'))?)
     }
 }
 

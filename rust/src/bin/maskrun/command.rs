@@ -55,9 +55,9 @@ impl<'a> Command<'a> {
             Command::And(a, b) => and(a, b),
             Command::Or(a, b) => or(a, b),
             Command::AndNot(a, b) => and_not(a, b),
-            Command::Not(a) => print(a.mask()?.not()),
+            Command::Not(a) => print(a.mask()?.try_not()),
             Command::Slice(a, start, end) => slice(a, *start, *end),
-            Command::Limit(a, k) => print(a.mask()?.limit(*k)),
+            Command::Limit(a, k) => print(a.mask()?.try_limit(*k)),
             Command::Cat(list) => cat(list),
             Command::Pipe(list) => pipe(list),
             Command::Indices(a) => indices(a),
@@ -69,22 +69,22 @@ impl<'a> Command<'a> {
 fn rank(a: &MaskArgument, b: &MaskArgument) -> Result<String, RunError> {
     let (a, b) = (a.mask()?, b.mask()?);
     expect_len(&b, a.true_count())?;
-    print(a.intersect_by_rank(&b))
+    print(a.try_intersect_by_rank(&b))
 }
 
 fn and(a: &MaskArgument, b: &MaskArgument) -> Result<String, RunError> {
     let (a, b) = of_one_len(a, b)?;
-    print(a.into_bitand(&b))
+    print(a.try_into_bitand(&b))
 }
 
 fn or(a: &MaskArgument, b: &MaskArgument) -> Result<String, RunError> {
     let (a, b) = of_one_len(a, b)?;
-    print(a.into_bitor(&b))
+    print(a.try_into_bitor(&b))
 }
 
 fn and_not(a: &MaskArgument, b: &MaskArgument) -> Result<String, RunError> {
     let (a, b) = of_one_len(a, b)?;
-    print(a.bitand_not(&b))
+    print(a.try_bitand_not(&b))
 }
 
 // Two masks of the same length.
@@ -116,12 +116,12 @@ fn slice(a: &MaskArgument, start: usize, end: usize) -> Result<String, RunError>
     if end < start {
         return Err(RunError::OutOfRange { word: 2 });
     }
-    print(a.slice(start, end))
+    print(a.try_slice(start, end))
 }
 
 fn cat(list: &MaskList) -> Result<String, RunError> {
     let masks = list.masks()?;
-    print(Mask::from_masks(masks.into_iter()))
+    print(Mask::try_from_masks(masks.into_iter()))
 }
 
 fn pipe(list: &MaskList) -> Result<String, RunError> {
@@ -137,7 +137,7 @@ fn folded(masks: &[Mask]) -> Result<Mask, RunError> {
     };
     stacks_have_no_misfit();
     expect_stack(first, rest)?;
-    Ok(first.intersect_all_by_rank(rest)?)
+    Ok(first.try_intersect_all_by_rank(rest)?)
 }
 
 // Each mask has a value for each true value of the one before it.
@@ -162,7 +162,7 @@ fn indices(a: &MaskArgument) -> Result<String, RunError> {
 fn ranges(a: &MaskArgument) -> Result<String, RunError> {
     let mut mask = a.mask()?;
     let len = mask.len();
-    match mask.slices()? {
+    match mask.try_slices()? {
         AllOr::All if len > 0 => Ok(list_text(&[(0, len)])?),
         AllOr::All => Ok(list_text::<(usize, usize)>(&[])?),
         AllOr::None => Ok(list_text::<(usize, usize)>(&[])?),

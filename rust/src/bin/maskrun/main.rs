@@ -1,7 +1,7 @@
 //! `maskrun rank A B` prints mask `A` narrowed by mask `B` over its true values. All commands stand in the docs of
 //! `answer`.
 #![cfg_attr(unix, no_main)]
-#![allow(clippy::all, clippy::pedantic, unused_imports)]
+#![allow(clippy::all, clippy::pedantic, unused_imports, unused_mut)]
 
 mod answer;
 mod argument;

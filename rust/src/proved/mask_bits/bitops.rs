@@ -22,7 +22,7 @@ impl BitBuffer {
     /// - *len*: `IfOk result (λ b. length (values b) ≡ length (values self.now))`
     #[inline]
     #[track_caller]
-    pub fn bitand(&self, other: &BitBuffer) -> Result<BitBuffer, AllocError> {
+    pub fn try_bitand(&self, other: &BitBuffer) -> Result<BitBuffer, AllocError> {
         crate::conditions::need_equal(
             self.len(),
             other.len(),
@@ -48,7 +48,7 @@ impl BitBuffer {
     /// - *len*: `IfOk result (λ b. length (values b) ≡ length (values self.now))`
     #[inline]
     #[track_caller]
-    pub fn bitor(&self, other: &BitBuffer) -> Result<BitBuffer, AllocError> {
+    pub fn try_bitor(&self, other: &BitBuffer) -> Result<BitBuffer, AllocError> {
         crate::conditions::need_equal(
             self.len(),
             other.len(),
@@ -74,7 +74,7 @@ impl BitBuffer {
     /// - *len*: `IfOk result (λ b. length (values b) ≡ length (values self.now))`
     #[inline]
     #[track_caller]
-    pub fn bitand_not(&self, other: &BitBuffer) -> Result<BitBuffer, AllocError> {
+    pub fn try_bitand_not(&self, other: &BitBuffer) -> Result<BitBuffer, AllocError> {
         crate::conditions::need_equal(
             self.len(),
             other.len(),
@@ -95,7 +95,12 @@ impl BitBuffer {
     /// - *list*: `IfOk result (λ b. values b ≡ not_of (values self.now))`
     /// - *len*: `IfOk result (λ b. length (values b) ≡ length (values self.now))`
     #[inline]
-    pub fn not(&self) -> Result<BitBuffer, AllocError> {
+    pub fn try_not(&self) -> Result<BitBuffer, AllocError> {
+        self.not_proved()
+    }
+
+    #[inline]
+    pub(crate) fn not_proved(&self) -> Result<BitBuffer, AllocError> {
         combined_buffer::<Not>(self, self)
     }
 }
@@ -115,7 +120,7 @@ impl BitBuffer {
     /// - *len*: `IfOk result (λ b. length (values b) ≡ length (values self))`
     #[inline]
     #[track_caller]
-    pub fn into_bitand(self, other: &BitBuffer) -> Result<BitBuffer, AllocError> {
+    pub fn try_into_bitand(self, other: &BitBuffer) -> Result<BitBuffer, AllocError> {
         crate::conditions::need_equal(
             self.len(),
             other.len(),
@@ -141,7 +146,7 @@ impl BitBuffer {
     /// - *len*: `IfOk result (λ b. length (values b) ≡ length (values self))`
     #[inline]
     #[track_caller]
-    pub fn into_bitor(self, other: &BitBuffer) -> Result<BitBuffer, AllocError> {
+    pub fn try_into_bitor(self, other: &BitBuffer) -> Result<BitBuffer, AllocError> {
         crate::conditions::need_equal(
             self.len(),
             other.len(),
@@ -167,7 +172,7 @@ impl BitBuffer {
     /// - *len*: `IfOk result (λ b. length (values b) ≡ length (values self))`
     #[inline]
     #[track_caller]
-    pub fn into_bitand_not(self, other: &BitBuffer) -> Result<BitBuffer, AllocError> {
+    pub fn try_into_bitand_not(self, other: &BitBuffer) -> Result<BitBuffer, AllocError> {
         crate::conditions::need_equal(
             self.len(),
             other.len(),
@@ -188,14 +193,19 @@ impl BitBuffer {
     /// - *list*: `IfOk result (λ b. values b ≡ not_of (values self))`
     /// - *len*: `IfOk result (λ b. length (values b) ≡ length (values self))`
     #[inline]
-    pub fn into_not(self) -> Result<BitBuffer, AllocError> {
+    pub fn try_into_not(self) -> Result<BitBuffer, AllocError> {
+        self.into_not_proved()
+    }
+
+    #[inline]
+    pub(crate) fn into_not_proved(self) -> Result<BitBuffer, AllocError> {
         let len = self.len();
         match self.into_room() {
             Ok(mut room) => {
                 negate_in_place(room.as_mut_slice(), len);
                 BitBuffer::from_room(room, len)
             }
-            Err(shared) => shared.not(),
+            Err(shared) => shared.not_proved(),
         }
     }
 }

@@ -94,7 +94,7 @@ impl BitBuffer {
     /// - *len*: `IfOk result (λ b. length (values b) ≡ len)`
     #[inline]
     #[track_caller]
-    pub fn from_vec(bytes: Vec<u8>, len: usize) -> Result<BitBuffer, AllocError> {
+    pub fn try_from_vec(bytes: Vec<u8>, len: usize) -> Result<BitBuffer, AllocError> {
         crate::conditions::need_at_most(
             (len as u128),
             8 * (bytes.len() as u128),
@@ -103,7 +103,7 @@ impl BitBuffer {
         BitBuffer::from_vec_proved(bytes, len)
     }
 
-    #[inline(always)]
+    #[inline]
     pub(crate) fn from_vec_proved(bytes: Vec<u8>, len: usize) -> Result<BitBuffer, AllocError> {
         Ok(BitBuffer::new_proved(Bytes::from_vec(bytes)?, len))
     }
@@ -114,7 +114,12 @@ impl BitBuffer {
     ///
     /// - `IfOk result (λ b. values b ≡ repeated len true)`
     #[inline]
-    pub fn new_set(len: usize) -> Result<BitBuffer, AllocError> {
+    pub fn try_new_set(len: usize) -> Result<BitBuffer, AllocError> {
+        BitBuffer::new_set_proved(len)
+    }
+
+    #[inline]
+    pub(crate) fn new_set_proved(len: usize) -> Result<BitBuffer, AllocError> {
         let ones = crate::kit::filled(0xFFu8, len.div_ceil(8))?;
         BitBuffer::from_vec_proved(ones, len)
     }
@@ -125,7 +130,12 @@ impl BitBuffer {
     ///
     /// - `IfOk result (λ b. values b ≡ repeated len false)`
     #[inline]
-    pub fn new_unset(len: usize) -> Result<BitBuffer, AllocError> {
+    pub fn try_new_unset(len: usize) -> Result<BitBuffer, AllocError> {
+        BitBuffer::new_unset_proved(len)
+    }
+
+    #[inline]
+    pub(crate) fn new_unset_proved(len: usize) -> Result<BitBuffer, AllocError> {
         BitBuffer::from_vec_proved(zeroed(len)?, len)
     }
 
@@ -140,7 +150,7 @@ impl BitBuffer {
     /// - `IfOk result (λ b. values b ≡ true_at len indices.now)`
     #[inline]
     #[track_caller]
-    pub fn from_indices(len: usize, indices: &[usize]) -> Result<BitBuffer, AllocError> {
+    pub fn try_from_indices(len: usize, indices: &[usize]) -> Result<BitBuffer, AllocError> {
         crate::conditions::need_each_below(
             indices,
             len,
@@ -149,7 +159,7 @@ impl BitBuffer {
         BitBuffer::from_indices_proved(len, indices)
     }
 
-    #[inline(always)]
+    #[inline]
     pub(crate) fn from_indices_proved(
         len: usize,
         indices: &[usize],
@@ -173,8 +183,14 @@ impl BitBuffer {
     /// - *items*: `IfOk result (λ b. Drains I.next_gives bools (values b))`
     /// - *whole*: `IfOk result (λ b. WholeRun I.next_gives bools (λ p. values b ≡ p.items))`
     #[inline]
-    pub fn from_bools<I: IntoIterator<Item = bool>>(bools: I) -> Result<BitBuffer, AllocError> {
-        let bools = bools.into_iter();
+    pub fn try_from_bools<I: IntoIterator<Item = bool>>(bools: I) -> Result<BitBuffer, AllocError> {
+        BitBuffer::from_bools_proved::<_>(bools.into_iter())
+    }
+
+    #[inline]
+    pub(crate) fn from_bools_proved<I: Iterator<Item = bool>>(
+        bools: I,
+    ) -> Result<BitBuffer, AllocError> {
         // listed first: a word is packed from 64 values in a row several times as fast as from an
         // iterator, which may end at each
         let bools: Vec<bool> = bools.try_collected()?;
@@ -193,7 +209,7 @@ impl BitBuffer {
     /// # Proved ([terms](crate::definitions))
     ///
     /// - `IfOk result (λ b. b ≡ self.now)`
-    #[inline(always)]
+    #[inline]
     pub fn try_clone(&self) -> Result<BitBuffer, AllocError> {
         let bytes = self.bytes.clone()?;
         Ok(BitBuffer::new_with_offset_proved(bytes, self.offset, self.len))
@@ -217,7 +233,7 @@ impl BitBuffer {
     /// - *list*: `IfOk result (λ b. values b ≡ slice_range (values self.now) start end)`
     #[inline]
     #[track_caller]
-    pub fn slice(&self, start: usize, end: usize) -> Result<BitBuffer, AllocError> {
+    pub fn try_slice(&self, start: usize, end: usize) -> Result<BitBuffer, AllocError> {
         crate::conditions::need_at_most(
             start,
             end,
@@ -356,7 +372,7 @@ impl BitBuffer {
     // The first `len` bits of bytes that were written in place.
     #[inline]
     pub(crate) fn from_room(room: BytesMut, len: usize) -> Result<BitBuffer, AllocError> {
-        Ok(BitBuffer::new_proved(room.freeze()?, len))
+        Ok(BitBuffer::new_proved(BytesMut::freeze(room)?, len))
     }
 
     /// Value `i`.
@@ -407,7 +423,7 @@ impl BitBuffer {
     ///
     /// - *index*: `result ≡ slice_get (positions (values self.now)) (count (values self.now) - 1)`
     /// - *within*: `IfSome result (λ p. p < length (values self.now))`
-    #[inline(always)]
+    #[inline]
     pub fn last_set_index(&self) -> Option<usize> {
         self.chunks().last_set_index()
     }
@@ -462,7 +478,7 @@ impl BitBuffer {
 }
 
 // Bytes for `len` bits, all clear.
-#[inline(always)]
+#[inline]
 fn zeroed(len: usize) -> Result<Vec<u8>, AllocError> {
     crate::kit::filled(0u8, len.div_ceil(8))
 }

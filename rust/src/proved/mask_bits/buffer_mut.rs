@@ -23,8 +23,13 @@ impl BitBufferMut {
     /// # Proved ([terms](crate::definitions))
     ///
     /// - `IfOk result (λ b. b ≡ [])`
-    #[inline(always)]
-    pub fn with_capacity(n: usize) -> Result<BitBufferMut, AllocError> {
+    #[inline]
+    pub fn try_with_capacity(n: usize) -> Result<BitBufferMut, AllocError> {
+        BitBufferMut::with_capacity_proved(n)
+    }
+
+    #[inline]
+    pub(crate) fn with_capacity_proved(n: usize) -> Result<BitBufferMut, AllocError> {
         Ok(BitBufferMut { bytes: crate::kit::filled(0u8, 8 * started_words(n))?, len: 0 })
     }
 
@@ -34,8 +39,13 @@ impl BitBufferMut {
     ///
     /// - `IfOk result (λ b. b ≡ repeated len true)`
     #[inline]
-    pub fn new_set(len: usize) -> Result<BitBufferMut, AllocError> {
-        let mut buffer = BitBufferMut::with_capacity(len)?;
+    pub fn try_new_set(len: usize) -> Result<BitBufferMut, AllocError> {
+        BitBufferMut::new_set_proved(len)
+    }
+
+    #[inline]
+    pub(crate) fn new_set_proved(len: usize) -> Result<BitBufferMut, AllocError> {
+        let mut buffer = BitBufferMut::with_capacity_proved(len)?;
         buffer.append_n_proved(true, len)?;
         Ok(buffer)
     }
@@ -46,8 +56,13 @@ impl BitBufferMut {
     ///
     /// - `IfOk result (λ b. b ≡ repeated len false)`
     #[inline]
-    pub fn new_unset(len: usize) -> Result<BitBufferMut, AllocError> {
-        let mut buffer = BitBufferMut::with_capacity(len)?;
+    pub fn try_new_unset(len: usize) -> Result<BitBufferMut, AllocError> {
+        BitBufferMut::new_unset_proved(len)
+    }
+
+    #[inline]
+    pub(crate) fn new_unset_proved(len: usize) -> Result<BitBufferMut, AllocError> {
+        let mut buffer = BitBufferMut::with_capacity_proved(len)?;
         buffer.append_n_proved(false, len)?;
         Ok(buffer)
     }
@@ -124,7 +139,7 @@ impl BitBufferMut {
     /// - *refused*: `OnErr result (self.new ≡ self.old)`
     #[inline]
     #[track_caller]
-    pub fn append_n(&mut self, value: bool, n: usize) -> Result<(), AllocError> {
+    pub fn try_append_n(&mut self, value: bool, n: usize) -> Result<(), AllocError> {
         crate::conditions::need_at_most(
             (self.len() as u128) + (n as u128),
             (usize::MAX as u128),
@@ -153,7 +168,7 @@ impl BitBufferMut {
     /// - *refused*: `OnErr result (self.new ≡ self.old)`
     #[inline]
     #[track_caller]
-    pub fn append_buffer(&mut self, other: &BitBuffer) -> Result<(), AllocError> {
+    pub fn try_append_buffer(&mut self, other: &BitBuffer) -> Result<(), AllocError> {
         crate::conditions::need_at_most(
             (self.len() as u128) + (other.len() as u128),
             (usize::MAX as u128),
@@ -187,7 +202,7 @@ impl BitBufferMut {
     /// - *refused*: `OnErr result (self.new ≡ self.old)`
     #[inline]
     #[track_caller]
-    pub fn push_word(&mut self, word: u64, count: usize) -> Result<(), AllocError> {
+    pub fn try_push_word(&mut self, word: u64, count: usize) -> Result<(), AllocError> {
         crate::conditions::need_at_most(
             count,
             64,
@@ -215,7 +230,12 @@ impl BitBufferMut {
     ///
     /// - `IfOk result (λ b. values b ≡ self)`
     #[inline]
-    pub fn freeze(self) -> Result<BitBuffer, AllocError> {
+    pub fn try_freeze(self) -> Result<BitBuffer, AllocError> {
+        self.freeze_proved()
+    }
+
+    #[inline]
+    pub(crate) fn freeze_proved(self) -> Result<BitBuffer, AllocError> {
         let BitBufferMut { bytes, len } = self;
         Ok(BitBuffer::new_proved(Bytes::from_vec(bytes)?, len))
     }

@@ -23,7 +23,7 @@ impl BitBuffer {
     /// - *len*: `IfOk result (λ b. length (values b) ≡ count (values self.now))`
     #[inline]
     #[track_caller]
-    pub fn choose_values(&self, of: &BitBuffer) -> Result<BitBuffer, AllocError> {
+    pub fn try_choose_values(&self, of: &BitBuffer) -> Result<BitBuffer, AllocError> {
         crate::conditions::need_equal(
             of.len(),
             self.len(),

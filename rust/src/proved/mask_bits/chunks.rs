@@ -173,7 +173,7 @@ impl<'a> BitChunks<'a> {
     ///
     /// - *index*: `result ≡ slice_get (positions self.now) (count self.now - 1)`
     /// - *within*: `IfSome result (λ p. p < length self.now)`
-    #[inline(always)]
+    #[inline]
     pub fn last_set_index(&self) -> Option<usize> {
         let mut i = self.started_words();
         while i > 0 {

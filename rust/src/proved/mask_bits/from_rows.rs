@@ -25,7 +25,18 @@ impl BitBuffer {
     /// - *answers*: `IfOk result (λ b. AreAnswers (FnReturnsAt F.Fn test) rows.now (values b))`
     /// - *list*: `IfOk result (λ b. AreAsComputed (F.post test) rows.now (values b))`
     #[inline]
-    pub fn from_rows<T, F: Fn(&T) -> bool>(rows: &[T], test: F) -> Result<BitBuffer, AllocError> {
+    pub fn try_from_rows<T, F: Fn(&T) -> bool>(
+        rows: &[T],
+        test: F,
+    ) -> Result<BitBuffer, AllocError> {
+        BitBuffer::from_rows_proved::<T, F>(rows, test)
+    }
+
+    #[inline]
+    pub(crate) fn from_rows_proved<T, F: Fn(&T) -> bool>(
+        rows: &[T],
+        test: F,
+    ) -> Result<BitBuffer, AllocError> {
         crate::native::by_level!(
             Self::from_rows_v3::<T, F>(rows, test),
             Self::from_rows_any::<T, F>(rows, test)

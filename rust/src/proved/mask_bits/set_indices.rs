@@ -37,7 +37,7 @@ impl BitBuffer {
     /// - `IfOk result (λ indices. indices.items ≡ positions (values self.now))`
     #[inline]
     #[track_caller]
-    pub fn indices(&self, true_count: usize) -> Result<Vec<usize>, AllocError> {
+    pub fn try_indices(&self, true_count: usize) -> Result<Vec<usize>, AllocError> {
         crate::conditions::need_equal(
             true_count,
             self.true_count(),

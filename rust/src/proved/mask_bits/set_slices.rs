@@ -31,7 +31,12 @@ impl BitBuffer {
     ///
     /// - `IfOk result (λ ranges. ranges.items ≡ runs (values self.now))`
     #[inline]
-    pub fn runs(&self) -> Result<Vec<(usize, usize)>, AllocError> {
+    pub fn try_runs(&self) -> Result<Vec<(usize, usize)>, AllocError> {
+        self.runs_proved()
+    }
+
+    #[inline]
+    pub(crate) fn runs_proved(&self) -> Result<Vec<(usize, usize)>, AllocError> {
         crate::native::by_level!(self.runs_v3(), self.runs_any())
     }
 

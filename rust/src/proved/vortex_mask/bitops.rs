@@ -25,7 +25,7 @@ impl Mask {
     /// - *refused*: `IsOkUnless result (MaskError.Memory alloc_error)`
     #[inline]
     #[track_caller]
-    pub fn bitand(&self, other: &Mask) -> Result<Mask, MaskError> {
+    pub fn try_bitand(&self, other: &Mask) -> Result<Mask, MaskError> {
         crate::conditions::need_equal(
             self.len(),
             other.len(),
@@ -41,7 +41,7 @@ impl Mask {
             (_, Mask::AllFalse(_)) | (Mask::AllFalse(_), _) => Ok(Mask::new_false(self.len())),
             (Mask::AllTrue(_), Mask::Values(_)) => other.clone(),
             (Mask::Values(a), Mask::Values(b)) => {
-                Mask::from_buffer(a.bit_buffer().bitand_proved(b.bit_buffer())?)
+                Mask::from_buffer_proved(a.bit_buffer().bitand_proved(b.bit_buffer())?)
             }
         }
     }
@@ -63,7 +63,7 @@ impl Mask {
     /// - *refused*: `IsOkUnless result (MaskError.Memory alloc_error)`
     #[inline]
     #[track_caller]
-    pub fn bitor(&self, other: &Mask) -> Result<Mask, MaskError> {
+    pub fn try_bitor(&self, other: &Mask) -> Result<Mask, MaskError> {
         crate::conditions::need_equal(
             self.len(),
             other.len(),
@@ -79,7 +79,7 @@ impl Mask {
             (_, Mask::AllTrue(_)) | (Mask::AllTrue(_), _) => Ok(Mask::new_true(self.len())),
             (Mask::AllFalse(_), Mask::Values(_)) => other.clone(),
             (Mask::Values(a), Mask::Values(b)) => {
-                Mask::from_buffer(a.bit_buffer().bitor_proved(b.bit_buffer())?)
+                Mask::from_buffer_proved(a.bit_buffer().bitor_proved(b.bit_buffer())?)
             }
         }
     }
@@ -95,14 +95,19 @@ impl Mask {
     /// - *uniform*: `variant self.now ≢ mixed → IsOk result`
     /// - *refused*: `IsOkUnless result (MaskError.Memory alloc_error)`
     #[inline]
-    pub fn not(&self) -> Result<Mask, MaskError> {
+    pub fn try_not(&self) -> Result<Mask, MaskError> {
+        self.not_proved()
+    }
+
+    #[inline]
+    pub(crate) fn not_proved(&self) -> Result<Mask, MaskError> {
         match self {
             Mask::AllTrue(len) => Ok(Mask::AllFalse(*len)),
             Mask::AllFalse(len) => Ok(Mask::AllTrue(*len)),
             Mask::Values(values) => {
                 // what was false is true now, so nothing is counted
                 let false_count = values.len() - values.true_count();
-                Mask::from_counted_buffer(values.bit_buffer().not()?, false_count, None)
+                Mask::from_counted_buffer(values.bit_buffer().not_proved()?, false_count, None)
             }
         }
     }
@@ -124,7 +129,7 @@ impl Mask {
     /// - *refused*: `IsOkUnless result (MaskError.Memory alloc_error)`
     #[inline]
     #[track_caller]
-    pub fn to_bitand_not(&self, other: &Mask) -> Result<Mask, MaskError> {
+    pub fn try_to_bitand_not(&self, other: &Mask) -> Result<Mask, MaskError> {
         crate::conditions::need_equal(
             self.len(),
             other.len(),
@@ -138,9 +143,9 @@ impl Mask {
         match (self, other) {
             (_, Mask::AllFalse(_)) => self.clone(),
             (_, Mask::AllTrue(_)) | (Mask::AllFalse(_), _) => Ok(Mask::new_false(self.len())),
-            (Mask::AllTrue(_), Mask::Values(_)) => other.not(),
+            (Mask::AllTrue(_), Mask::Values(_)) => other.not_proved(),
             (Mask::Values(a), Mask::Values(b)) => {
-                Mask::from_buffer(a.bit_buffer().bitand_not_proved(b.bit_buffer())?)
+                Mask::from_buffer_proved(a.bit_buffer().bitand_not_proved(b.bit_buffer())?)
             }
         }
     }
@@ -167,7 +172,7 @@ impl Mask {
     /// - *refused*: `IsOkUnless result (MaskError.Memory alloc_error)`
     #[inline]
     #[track_caller]
-    pub fn into_bitand(self, other: &Mask) -> Result<Mask, MaskError> {
+    pub fn try_into_bitand(self, other: &Mask) -> Result<Mask, MaskError> {
         crate::conditions::need_equal(
             self.len(),
             other.len(),
@@ -184,7 +189,7 @@ impl Mask {
         match (self, other) {
             (Mask::Values(a), Mask::Values(b)) => {
                 let bits = MaskValues::buffer_of(a)?.into_bitand_proved(b.bit_buffer())?;
-                Mask::from_buffer(bits)
+                Mask::from_buffer_proved(bits)
             }
             (mask, other) => mask.bitand_proved(other),
         }
@@ -208,7 +213,7 @@ impl Mask {
     /// - *refused*: `IsOkUnless result (MaskError.Memory alloc_error)`
     #[inline]
     #[track_caller]
-    pub fn into_bitor(self, other: &Mask) -> Result<Mask, MaskError> {
+    pub fn try_into_bitor(self, other: &Mask) -> Result<Mask, MaskError> {
         crate::conditions::need_equal(
             self.len(),
             other.len(),
@@ -225,7 +230,7 @@ impl Mask {
         match (self, other) {
             (Mask::Values(a), Mask::Values(b)) => {
                 let bits = MaskValues::buffer_of(a)?.into_bitor_proved(b.bit_buffer())?;
-                Mask::from_buffer(bits)
+                Mask::from_buffer_proved(bits)
             }
             (mask, other) => mask.bitor_proved(other),
         }
@@ -242,14 +247,19 @@ impl Mask {
     /// - *uniform*: `variant self ≢ mixed → IsOk result`
     /// - *refused*: `IsOkUnless result (MaskError.Memory alloc_error)`
     #[inline]
-    pub fn into_not(self) -> Result<Mask, MaskError> {
+    pub fn try_into_not(self) -> Result<Mask, MaskError> {
+        self.into_not_proved()
+    }
+
+    #[inline]
+    pub(crate) fn into_not_proved(self) -> Result<Mask, MaskError> {
         match self {
             Mask::Values(values) => {
                 let false_count = values.len() - values.true_count();
-                let bits = MaskValues::buffer_of(values)?.into_not()?;
+                let bits = MaskValues::buffer_of(values)?.into_not_proved()?;
                 Mask::from_counted_buffer(bits, false_count, None)
             }
-            mask => mask.not(),
+            mask => mask.not_proved(),
         }
     }
 
@@ -271,7 +281,7 @@ impl Mask {
     /// - *refused*: `IsOkUnless result (MaskError.Memory alloc_error)`
     #[inline]
     #[track_caller]
-    pub fn bitand_not(self, other: &Mask) -> Result<Mask, MaskError> {
+    pub fn try_bitand_not(self, other: &Mask) -> Result<Mask, MaskError> {
         crate::conditions::need_equal(
             self.len(),
             other.len(),
@@ -286,7 +296,7 @@ impl Mask {
             (mask, Mask::AllFalse(_)) => Ok(mask),
             (Mask::Values(a), Mask::Values(b)) => {
                 let bits = MaskValues::buffer_of(a)?.into_bitand_not_proved(b.bit_buffer())?;
-                Mask::from_buffer(bits)
+                Mask::from_buffer_proved(bits)
             }
             (mask, other) => mask.to_bitand_not_proved(other),
         }

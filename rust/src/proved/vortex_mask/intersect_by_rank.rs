@@ -52,7 +52,7 @@ impl Mask {
     /// - *refused*: `IsOkUnless result (MaskError.Memory alloc_error)`
     #[inline]
     #[track_caller]
-    pub fn intersect_by_rank(&self, mask: &Mask) -> Result<Mask, MaskError> {
+    pub fn try_intersect_by_rank(&self, mask: &Mask) -> Result<Mask, MaskError> {
         crate::conditions::need_equal(
             mask.len(),
             self.true_count(),
@@ -100,7 +100,7 @@ impl Mask {
     /// - *refused*: `IsOkUnless result (MaskError.Memory alloc_error)`
     #[inline]
     #[track_caller]
-    pub fn intersect_by_rank_counted(&self, mask: &Mask) -> Result<(Mask, Steps), MaskError> {
+    pub fn try_intersect_by_rank_counted(&self, mask: &Mask) -> Result<(Mask, Steps), MaskError> {
         crate::conditions::need_equal(
             mask.len(),
             self.true_count(),
@@ -168,7 +168,7 @@ impl Mask {
     /// - *refused*: `IsOkUnless result (MaskError.Memory alloc_error)`
     #[inline]
     #[track_caller]
-    pub fn intersect_all_by_rank(&self, masks: &[Mask]) -> Result<Mask, MaskError> {
+    pub fn try_intersect_all_by_rank(&self, masks: &[Mask]) -> Result<Mask, MaskError> {
         crate::conditions::need_stack(
             self,
             masks,

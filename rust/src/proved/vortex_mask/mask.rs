@@ -122,7 +122,7 @@ impl Mask {
     /// - *caches*: `IfOk result (λ m. caches m ≡ caches self.now)`
     /// - *uniform*: `variant self.now ≢ mixed → IsOk result`
     /// - *refused*: `IsOkUnless result (MaskError.Memory alloc_error)`
-    #[inline(always)]
+    #[inline]
     pub fn try_clone(&self) -> Result<Mask, MaskError> {
         match self {
             Mask::AllTrue(len) => Ok(Mask::AllTrue(*len)),
@@ -352,7 +352,7 @@ impl Mask {
     ///
     /// - *index*: `result ≡ slice_get (positions (truth self.now)) (count (truth self.now) - 1)`
     /// - *within*: `IfSome result (λ p. p < length (truth self.now))`
-    #[inline(always)]
+    #[inline]
     pub fn last(&self) -> Option<usize> {
         match self {
             Mask::AllTrue(len) => len.checked_sub(1),
@@ -375,7 +375,7 @@ impl Mask {
     /// - *refused*: `IsOkUnless result (MaskError.Memory alloc_error)`
     #[inline]
     #[track_caller]
-    pub fn valid_counts_for_indices(&self, indices: &[usize]) -> Result<Vec<usize>, MaskError> {
+    pub fn try_valid_counts_for_indices(&self, indices: &[usize]) -> Result<Vec<usize>, MaskError> {
         crate::conditions::need_sorted(
             indices,
             "`valid_counts_for_indices` needs each of `indices` at least the one before it: ",

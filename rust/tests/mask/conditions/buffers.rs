@@ -9,7 +9,7 @@ fn bytes() -> Bytes {
 }
 
 fn builder() -> BitBufferMut {
-    BitBufferMut::new_set(5).unwrap()
+    BitBufferMut::try_new_set(5).unwrap()
 }
 
 const MAX: usize = usize::MAX;
@@ -69,50 +69,60 @@ pub const ROWS: &[Row] = &[
         ],
     ),
     (
-        "BitBuffer::from_vec",
+        "BitBuffer::try_from_vec",
         "",
         "`from_vec` needs `len <= 8 * bytes.len()`: ",
         &[
-            (|| ok(BitBuffer::from_vec(vec![0; 2], 17)), "17 is not at most 16"),
-            (|| ok(BitBuffer::from_vec(vec![], MAX)), "18446744073709551615 is not at most 0"),
+            (|| ok(BitBuffer::try_from_vec(vec![0; 2], 17)), "17 is not at most 16"),
+            (|| ok(BitBuffer::try_from_vec(vec![], MAX)), "18446744073709551615 is not at most 0"),
         ],
-        &[|| ok(BitBuffer::from_vec(vec![0; 2], 16)), || ok(BitBuffer::from_vec(vec![], 0))],
+        &[
+            || ok(BitBuffer::try_from_vec(vec![0; 2], 16)),
+            || ok(BitBuffer::try_from_vec(vec![], 0)),
+        ],
     ),
     (
-        "BitBuffer::from_indices",
+        "BitBuffer::try_from_indices",
         "",
         "`from_indices` needs each of `indices` below `len`: ",
         &[
-            (|| ok(BitBuffer::from_indices(5, &[0, 5])), "item 1 is 5, not below 5"),
+            (|| ok(BitBuffer::try_from_indices(5, &[0, 5])), "item 1 is 5, not below 5"),
             (
-                || ok(BitBuffer::from_indices(5, &[MAX, 0])),
+                || ok(BitBuffer::try_from_indices(5, &[MAX, 0])),
                 "item 0 is 18446744073709551615, not below 5",
             ),
-            (|| ok(BitBuffer::from_indices(0, &[0])), "item 0 is 0, not below 0"),
+            (|| ok(BitBuffer::try_from_indices(0, &[0])), "item 0 is 0, not below 0"),
         ],
-        &[|| ok(BitBuffer::from_indices(5, &[4, 0, 4])), || ok(BitBuffer::from_indices(0, &[]))],
+        &[
+            || ok(BitBuffer::try_from_indices(5, &[4, 0, 4])),
+            || ok(BitBuffer::try_from_indices(0, &[])),
+        ],
     ),
     (
-        "BitBuffer::slice",
+        "BitBuffer::try_slice",
         "ordered",
         "`slice` needs `start <= end`: ",
         &[
-            (|| ok(thirds(5).slice(1, 0)), "1 is not at most 0"),
-            (|| ok(thirds(5).slice(5, 4)), "5 is not at most 4"),
-            (|| ok(thirds(5).slice(MAX, 5)), "18446744073709551615 is not at most 5"),
+            (|| ok(thirds(5).try_slice(1, 0)), "1 is not at most 0"),
+            (|| ok(thirds(5).try_slice(5, 4)), "5 is not at most 4"),
+            (|| ok(thirds(5).try_slice(MAX, 5)), "18446744073709551615 is not at most 5"),
         ],
-        &[|| ok(thirds(5).slice(0, 0)), || ok(thirds(5).slice(5, 5)), || ok(thirds(5).slice(4, 5))],
+        &[
+            || ok(thirds(5).try_slice(0, 0)),
+            || ok(thirds(5).try_slice(5, 5)),
+            || ok(thirds(5).try_slice(4, 5)),
+        ],
     ),
     (
-        "BitBuffer::slice",
+        "BitBuffer::try_slice",
         "within",
         "`slice` needs `end <= self.len()`: ",
         &[
-            (|| ok(thirds(5).slice(0, 6)), "6 is not at most 5"),
-            (|| ok(thirds(5).slice(6, 6)), "6 is not at most 5"),
-            (|| ok(thirds(5).slice(5, MAX)), "18446744073709551615 is not at most 5"),
+            (|| ok(thirds(5).try_slice(0, 6)), "6 is not at most 5"),
+            (|| ok(thirds(5).try_slice(6, 6)), "6 is not at most 5"),
+            (|| ok(thirds(5).try_slice(5, MAX)), "18446744073709551615 is not at most 5"),
         ],
-        &[|| ok(thirds(5).slice(0, 5)), || ok(thirds(5).slice(5, 5))],
+        &[|| ok(thirds(5).try_slice(0, 5)), || ok(thirds(5).try_slice(5, 5))],
     ),
     (
         "BitBuffer::count_range",
@@ -156,89 +166,99 @@ pub const ROWS: &[Row] = &[
         &[|| done(thirds(5).first_from(5, true)), || done(thirds(0).first_from(0, false))],
     ),
     (
-        "BitBuffer::indices",
+        "BitBuffer::try_indices",
         "",
         "`indices` needs `true_count == self.true_count()`: ",
         &[
-            (|| ok(thirds(5).indices(1)), "1 is not 2"),
-            (|| ok(thirds(5).indices(3)), "3 is not 2"),
-            (|| ok(thirds(200).indices(66)), "66 is not 67"),
-            (|| ok(thirds(200).indices(MAX)), "18446744073709551615 is not 67"),
+            (|| ok(thirds(5).try_indices(1)), "1 is not 2"),
+            (|| ok(thirds(5).try_indices(3)), "3 is not 2"),
+            (|| ok(thirds(200).try_indices(66)), "66 is not 67"),
+            (|| ok(thirds(200).try_indices(MAX)), "18446744073709551615 is not 67"),
         ],
-        &[|| ok(thirds(5).indices(2)), || ok(thirds(200).indices(67)), || ok(thirds(0).indices(0))],
+        &[
+            || ok(thirds(5).try_indices(2)),
+            || ok(thirds(200).try_indices(67)),
+            || ok(thirds(0).try_indices(0)),
+        ],
     ),
     (
-        "BitBuffer::bitand",
+        "BitBuffer::try_bitand",
         "",
         "`bitand` needs `self.len() == other.len()`: ",
         &[
-            (|| ok(bits("10").bitand(&bits("101"))), "2 is not 3"),
-            (|| ok(bits("10").bitand(&bits("1"))), "2 is not 1"),
+            (|| ok(bits("10").try_bitand(&bits("101"))), "2 is not 3"),
+            (|| ok(bits("10").try_bitand(&bits("1"))), "2 is not 1"),
         ],
-        &[|| ok(bits("10").bitand(&bits("01"))), || ok(bits("").bitand(&bits("")))],
+        &[|| ok(bits("10").try_bitand(&bits("01"))), || ok(bits("").try_bitand(&bits("")))],
     ),
     (
-        "BitBuffer::bitor",
+        "BitBuffer::try_bitor",
         "",
         "`bitor` needs `self.len() == other.len()`: ",
         &[
-            (|| ok(bits("10").bitor(&bits("101"))), "2 is not 3"),
-            (|| ok(bits("10").bitor(&bits("1"))), "2 is not 1"),
+            (|| ok(bits("10").try_bitor(&bits("101"))), "2 is not 3"),
+            (|| ok(bits("10").try_bitor(&bits("1"))), "2 is not 1"),
         ],
-        &[|| ok(bits("10").bitor(&bits("01"))), || ok(bits("").bitor(&bits("")))],
+        &[|| ok(bits("10").try_bitor(&bits("01"))), || ok(bits("").try_bitor(&bits("")))],
     ),
     (
-        "BitBuffer::bitand_not",
+        "BitBuffer::try_bitand_not",
         "",
         "`bitand_not` needs `self.len() == other.len()`: ",
         &[
-            (|| ok(bits("10").bitand_not(&bits("101"))), "2 is not 3"),
-            (|| ok(bits("10").bitand_not(&bits("1"))), "2 is not 1"),
+            (|| ok(bits("10").try_bitand_not(&bits("101"))), "2 is not 3"),
+            (|| ok(bits("10").try_bitand_not(&bits("1"))), "2 is not 1"),
         ],
-        &[|| ok(bits("10").bitand_not(&bits("01"))), || ok(bits("").bitand_not(&bits("")))],
+        &[|| ok(bits("10").try_bitand_not(&bits("01"))), || ok(bits("").try_bitand_not(&bits("")))],
     ),
     (
-        "BitBuffer::into_bitand",
+        "BitBuffer::try_into_bitand",
         "",
         "`into_bitand` needs `self.len() == other.len()`: ",
         &[
-            (|| ok(bits("10").into_bitand(&bits("101"))), "2 is not 3"),
-            (|| ok(bits("10").into_bitand(&bits("1"))), "2 is not 1"),
+            (|| ok(bits("10").try_into_bitand(&bits("101"))), "2 is not 3"),
+            (|| ok(bits("10").try_into_bitand(&bits("1"))), "2 is not 1"),
         ],
-        &[|| ok(bits("10").into_bitand(&bits("01"))), || ok(bits("").into_bitand(&bits("")))],
+        &[
+            || ok(bits("10").try_into_bitand(&bits("01"))),
+            || ok(bits("").try_into_bitand(&bits(""))),
+        ],
     ),
     (
-        "BitBuffer::into_bitor",
+        "BitBuffer::try_into_bitor",
         "",
         "`into_bitor` needs `self.len() == other.len()`: ",
         &[
-            (|| ok(bits("10").into_bitor(&bits("101"))), "2 is not 3"),
-            (|| ok(bits("10").into_bitor(&bits("1"))), "2 is not 1"),
+            (|| ok(bits("10").try_into_bitor(&bits("101"))), "2 is not 3"),
+            (|| ok(bits("10").try_into_bitor(&bits("1"))), "2 is not 1"),
         ],
-        &[|| ok(bits("10").into_bitor(&bits("01"))), || ok(bits("").into_bitor(&bits("")))],
+        &[|| ok(bits("10").try_into_bitor(&bits("01"))), || ok(bits("").try_into_bitor(&bits("")))],
     ),
     (
-        "BitBuffer::into_bitand_not",
+        "BitBuffer::try_into_bitand_not",
         "",
         "`into_bitand_not` needs `self.len() == other.len()`: ",
         &[
-            (|| ok(bits("10").into_bitand_not(&bits("101"))), "2 is not 3"),
-            (|| ok(bits("10").into_bitand_not(&bits("1"))), "2 is not 1"),
+            (|| ok(bits("10").try_into_bitand_not(&bits("101"))), "2 is not 3"),
+            (|| ok(bits("10").try_into_bitand_not(&bits("1"))), "2 is not 1"),
         ],
         &[
-            || ok(bits("10").into_bitand_not(&bits("01"))),
-            || ok(bits("").into_bitand_not(&bits(""))),
+            || ok(bits("10").try_into_bitand_not(&bits("01"))),
+            || ok(bits("").try_into_bitand_not(&bits(""))),
         ],
     ),
     (
-        "BitBuffer::choose_values",
+        "BitBuffer::try_choose_values",
         "",
         "`choose_values` needs `of.len() == self.len()`: ",
         &[
-            (|| ok(bits("10").choose_values(&bits("101"))), "3 is not 2"),
-            (|| ok(bits("10").choose_values(&bits("1"))), "1 is not 2"),
+            (|| ok(bits("10").try_choose_values(&bits("101"))), "3 is not 2"),
+            (|| ok(bits("10").try_choose_values(&bits("1"))), "1 is not 2"),
         ],
-        &[|| ok(bits("10").choose_values(&bits("01"))), || ok(bits("").choose_values(&bits("")))],
+        &[
+            || ok(bits("10").try_choose_values(&bits("01"))),
+            || ok(bits("").try_choose_values(&bits(""))),
+        ],
     ),
     (
         "BitBufferMut::set",
@@ -263,47 +283,53 @@ pub const ROWS: &[Row] = &[
         &[|| builder().unset(4), || builder().unset(0)],
     ),
     (
-        "BitBufferMut::append_n",
+        "BitBufferMut::try_append_n",
         "",
         "`append_n` needs `self.len() + n <= usize::MAX`: ",
         &[
             (
-                || ok(builder().append_n(true, MAX - 4)),
+                || ok(builder().try_append_n(true, MAX - 4)),
                 "18446744073709551616 is not at most 18446744073709551615",
             ),
             (
-                || ok(builder().append_n(false, MAX)),
+                || ok(builder().try_append_n(false, MAX)),
                 "18446744073709551620 is not at most 18446744073709551615",
             ),
         ], // (there is no memory for as many)
         &[
-            || assert!(builder().append_n(true, MAX - 5).is_err()),
-            || ok(builder().append_n(true, 200)),
+            || assert!(builder().try_append_n(true, MAX - 5).is_err()),
+            || ok(builder().try_append_n(true, 200)),
         ],
     ),
     (
-        "BitBufferMut::append_buffer",
+        "BitBufferMut::try_append_buffer",
         "",
         "`append_buffer` needs `self.len() + other.len() <= usize::MAX`: ",
         &[],
-        &[|| ok(builder().append_buffer(&thirds(200))), || ok(builder().append_buffer(&bits("")))],
+        &[
+            || ok(builder().try_append_buffer(&thirds(200))),
+            || ok(builder().try_append_buffer(&bits(""))),
+        ],
     ),
     (
-        "BitBufferMut::push_word",
+        "BitBufferMut::try_push_word",
         "fits",
         "`push_word` needs `self.len() + count <= usize::MAX`: ",
         &[],
-        &[|| ok(builder().push_word(1, 64)), || ok(BitBufferMut::default().push_word(1, 0))],
+        &[
+            || ok(builder().try_push_word(1, 64)),
+            || ok(BitBufferMut::default().try_push_word(1, 0)),
+        ],
     ),
     (
-        "BitBufferMut::push_word",
+        "BitBufferMut::try_push_word",
         "few",
         "`push_word` needs `count <= 64`: ",
         &[
-            (|| ok(builder().push_word(0, 65)), "65 is not at most 64"),
-            (|| ok(builder().push_word(0, MAX)), "18446744073709551615 is not at most 64"),
+            (|| ok(builder().try_push_word(0, 65)), "65 is not at most 64"),
+            (|| ok(builder().try_push_word(0, MAX)), "18446744073709551615 is not at most 64"),
         ],
-        &[|| ok(builder().push_word(0, 64)), || ok(builder().push_word(0, 0))],
+        &[|| ok(builder().try_push_word(0, 64)), || ok(builder().try_push_word(0, 0))],
     ),
     (
         "BitChunks::new",

@@ -19,12 +19,36 @@ fn share(num: usize, den: usize) -> Fraction {
 }
 
 fn with_ranges(text: &str, ranges: &[(usize, usize)]) {
-    ok(Mask::from_buffer_with_slices(bits(text), ranges.to_vec()));
+    ok(Mask::try_from_buffer_with_slices(bits(text), ranges.to_vec()));
 }
 
 fn common(lhs: &[usize], rhs: &[usize]) {
-    ok(Mask::from_intersection_indices(9, lhs.iter().copied(), rhs.iter().copied()));
+    ok(Mask::try_from_intersection_indices(9, lhs.iter().copied(), rhs.iter().copied()));
 }
+
+/// Conditions of calls by hand.
+pub const BY_HAND: &[Row] = &[
+    (
+        "Mask::try_threshold_iter",
+        "",
+        "`threshold_iter` needs `den > 0`: ",
+        &[
+            (|| ok(five().try_threshold_iter(0, 0)), "0 is not above 0"),
+            (|| ok(Mask::AllTrue(5).try_threshold_iter(1, 0)), "0 is not above 0"),
+        ],
+        &[|| ok(five().try_threshold_iter(0, 1)), || ok(five().try_threshold_iter(MAX, 1))],
+    ),
+    (
+        "MaskValues::try_threshold_iter",
+        "",
+        "`threshold_iter` needs `den > 0`: ",
+        &[
+            (|| ok(values().try_threshold_iter(0, 0)), "0 is not above 0"),
+            (|| ok(values().try_threshold_iter(MAX, 0)), "0 is not above 0"),
+        ],
+        &[|| ok(values().try_threshold_iter(0, 1)), || ok(values().try_threshold_iter(MAX, MAX))],
+    ),
+];
 
 pub const ROWS: &[Row] = &[
     (
@@ -94,193 +118,192 @@ pub const ROWS: &[Row] = &[
         &[|| done(five().count_range(0, 5)), || done(Mask::AllTrue(5).count_range(5, 5))],
     ),
     (
-        "Mask::valid_counts_for_indices",
+        "Mask::try_valid_counts_for_indices",
         "ascending",
         "`valid_counts_for_indices` needs each of `indices` at least the one before it: ",
         &[
-            (|| ok(five().valid_counts_for_indices(&[1, 0])), "item 1 is 0, not at least 1"),
-            (|| ok(five().valid_counts_for_indices(&[0, 5, 5, 4])), "item 3 is 4, not at least 5"),
+            (|| ok(five().try_valid_counts_for_indices(&[1, 0])), "item 1 is 0, not at least 1"),
             (
-                || ok(Mask::AllTrue(5).valid_counts_for_indices(&[5, 4])),
+                || ok(five().try_valid_counts_for_indices(&[0, 5, 5, 4])),
+                "item 3 is 4, not at least 5",
+            ),
+            (
+                || ok(Mask::AllTrue(5).try_valid_counts_for_indices(&[5, 4])),
                 "item 1 is 4, not at least 5",
             ),
         ],
         &[
-            || ok(five().valid_counts_for_indices(&[0, 0, 5, 5])),
-            || ok(five().valid_counts_for_indices(&[])),
+            || ok(five().try_valid_counts_for_indices(&[0, 0, 5, 5])),
+            || ok(five().try_valid_counts_for_indices(&[])),
         ],
     ),
     (
-        "Mask::valid_counts_for_indices",
+        "Mask::try_valid_counts_for_indices",
         "within",
         "`valid_counts_for_indices`: Row indices exceed array length: ",
         &[
-            (|| ok(five().valid_counts_for_indices(&[0, 6])), "item 1 is 6, not at most 5"),
-            (|| ok(Mask::AllTrue(5).valid_counts_for_indices(&[6])), "item 0 is 6, not at most 5"),
+            (|| ok(five().try_valid_counts_for_indices(&[0, 6])), "item 1 is 6, not at most 5"),
             (
-                || ok(Mask::AllFalse(5).valid_counts_for_indices(&[5, MAX])),
+                || ok(Mask::AllTrue(5).try_valid_counts_for_indices(&[6])),
+                "item 0 is 6, not at most 5",
+            ),
+            (
+                || ok(Mask::AllFalse(5).try_valid_counts_for_indices(&[5, MAX])),
                 "item 1 is 18446744073709551615, not at most 5",
             ),
         ],
         &[
-            || ok(five().valid_counts_for_indices(&[0, 5])),
-            || ok(Mask::AllFalse(5).valid_counts_for_indices(&[5])),
+            || ok(five().try_valid_counts_for_indices(&[0, 5])),
+            || ok(Mask::AllFalse(5).try_valid_counts_for_indices(&[5])),
         ],
     ),
     (
-        "Mask::slice",
+        "Mask::try_slice",
         "ordered",
         "`slice` needs `start <= end`: ",
         &[
-            (|| ok(five().slice(1, 0)), "1 is not at most 0"),
-            (|| ok(Mask::AllTrue(5).slice(5, 4)), "5 is not at most 4"),
-            (|| ok(five().slice(MAX, 5)), "18446744073709551615 is not at most 5"),
+            (|| ok(five().try_slice(1, 0)), "1 is not at most 0"),
+            (|| ok(Mask::AllTrue(5).try_slice(5, 4)), "5 is not at most 4"),
+            (|| ok(five().try_slice(MAX, 5)), "18446744073709551615 is not at most 5"),
         ],
         &[
-            || ok(five().slice(0, 0)),
-            || ok(Mask::AllTrue(5).slice(5, 5)),
-            || ok(five().slice(4, 5)),
+            || ok(five().try_slice(0, 0)),
+            || ok(Mask::AllTrue(5).try_slice(5, 5)),
+            || ok(five().try_slice(4, 5)),
         ],
     ),
     (
-        "Mask::slice",
+        "Mask::try_slice",
         "within",
         "`slice` needs `end <= self.len()`: ",
         &[
-            (|| ok(five().slice(0, 6)), "6 is not at most 5"),
-            (|| ok(Mask::AllTrue(5).slice(6, 6)), "6 is not at most 5"),
-            (|| ok(five().slice(5, MAX)), "18446744073709551615 is not at most 5"),
+            (|| ok(five().try_slice(0, 6)), "6 is not at most 5"),
+            (|| ok(Mask::AllTrue(5).try_slice(6, 6)), "6 is not at most 5"),
+            (|| ok(five().try_slice(5, MAX)), "18446744073709551615 is not at most 5"),
         ],
-        &[|| ok(five().slice(0, 5)), || ok(Mask::AllFalse(5).slice(5, 5))],
+        &[|| ok(five().try_slice(0, 5)), || ok(Mask::AllFalse(5).try_slice(5, 5))],
     ),
     (
-        "Mask::groups",
+        "Mask::try_groups",
         "",
         "`groups` needs `size > 0`: ",
         &[
-            (|| ok(five().groups(0)), "0 is not above 0"),
-            (|| ok(Mask::AllTrue(0).groups(0)), "0 is not above 0"),
+            (|| ok(five().try_groups(0)), "0 is not above 0"),
+            (|| ok(Mask::AllTrue(0).try_groups(0)), "0 is not above 0"),
         ],
-        &[|| ok(five().groups(1)), || ok(five().groups(MAX)), || ok(Mask::AllTrue(0).groups(1))],
+        &[
+            || ok(five().try_groups(1)),
+            || ok(five().try_groups(MAX)),
+            || ok(Mask::AllTrue(0).try_groups(1)),
+        ],
     ),
     (
-        "Mask::choose",
+        "Mask::try_choose",
         "",
         "`choose` needs `rows.len() == self.len()`: ",
         &[
-            (|| ok(five().choose(&[0; 4])), "4 is not 5"),
-            (|| ok(five().choose(&[0; 6])), "6 is not 5"),
-            (|| ok(Mask::AllTrue(1).choose(&[0; 2])), "2 is not 1"),
-            (|| ok(Mask::AllFalse(1).choose::<u8>(&[])), "0 is not 1"),
+            (|| ok(five().try_choose(&[0; 4])), "4 is not 5"),
+            (|| ok(five().try_choose(&[0; 6])), "6 is not 5"),
+            (|| ok(Mask::AllTrue(1).try_choose(&[0; 2])), "2 is not 1"),
+            (|| ok(Mask::AllFalse(1).try_choose::<u8>(&[])), "0 is not 1"),
         ],
         &[
-            || ok(five().choose(&[0; 5])),
-            || ok(Mask::AllTrue(1).choose(&[0])),
-            || ok(mask("").choose::<u8>(&[])),
+            || ok(five().try_choose(&[0; 5])),
+            || ok(Mask::AllTrue(1).try_choose(&[0])),
+            || ok(mask("").try_choose::<u8>(&[])),
         ],
     ),
     (
-        "Mask::choose_values",
+        "Mask::try_choose_values",
         "",
         "`choose_values` needs `of.len() == self.len()`: ",
         &[
-            (|| ok(five().choose_values(&mask("1011"))), "4 is not 5"),
-            (|| ok(five().choose_values(&Mask::AllTrue(6))), "6 is not 5"),
-            (|| ok(Mask::AllFalse(6).choose_values(&five())), "5 is not 6"),
+            (|| ok(five().try_choose_values(&mask("1011"))), "4 is not 5"),
+            (|| ok(five().try_choose_values(&Mask::AllTrue(6))), "6 is not 5"),
+            (|| ok(Mask::AllFalse(6).try_choose_values(&five())), "5 is not 6"),
         ],
         &[
-            || ok(five().choose_values(&mask("10111"))),
-            || ok(five().choose_values(&Mask::AllTrue(5))),
+            || ok(five().try_choose_values(&mask("10111"))),
+            || ok(five().try_choose_values(&Mask::AllTrue(5))),
         ],
     ),
     (
-        "Mask::bitand",
+        "Mask::try_bitand",
         "",
         "`bitand`: Masks must have the same length: ",
         &[
-            (|| ok(five().bitand(&mask("1011"))), "5 is not 4"),
-            (|| ok(five().bitand(&Mask::AllTrue(6))), "5 is not 6"),
-            (|| ok(Mask::AllTrue(4).bitand(&five())), "4 is not 5"),
+            (|| ok(five().try_bitand(&mask("1011"))), "5 is not 4"),
+            (|| ok(five().try_bitand(&Mask::AllTrue(6))), "5 is not 6"),
+            (|| ok(Mask::AllTrue(4).try_bitand(&five())), "4 is not 5"),
         ],
-        &[|| ok(five().bitand(&mask("10111"))), || ok(five().bitand(&Mask::AllTrue(5)))],
+        &[|| ok(five().try_bitand(&mask("10111"))), || ok(five().try_bitand(&Mask::AllTrue(5)))],
     ),
     (
-        "Mask::bitor",
+        "Mask::try_bitor",
         "",
         "`bitor`: Masks must have the same length: ",
         &[
-            (|| ok(five().bitor(&mask("1011"))), "5 is not 4"),
-            (|| ok(five().bitor(&Mask::AllFalse(6))), "5 is not 6"),
-            (|| ok(Mask::AllFalse(4).bitor(&five())), "4 is not 5"),
+            (|| ok(five().try_bitor(&mask("1011"))), "5 is not 4"),
+            (|| ok(five().try_bitor(&Mask::AllFalse(6))), "5 is not 6"),
+            (|| ok(Mask::AllFalse(4).try_bitor(&five())), "4 is not 5"),
         ],
-        &[|| ok(five().bitor(&mask("10111"))), || ok(five().bitor(&Mask::AllFalse(5)))],
+        &[|| ok(five().try_bitor(&mask("10111"))), || ok(five().try_bitor(&Mask::AllFalse(5)))],
     ),
     (
-        "Mask::to_bitand_not",
+        "Mask::try_to_bitand_not",
         "",
         "`to_bitand_not`: Masks must have the same length: ",
         &[
-            (|| ok(five().to_bitand_not(&mask("1011"))), "5 is not 4"),
-            (|| ok(five().to_bitand_not(&Mask::AllFalse(6))), "5 is not 6"),
-            (|| ok(Mask::AllTrue(4).to_bitand_not(&five())), "4 is not 5"),
+            (|| ok(five().try_to_bitand_not(&mask("1011"))), "5 is not 4"),
+            (|| ok(five().try_to_bitand_not(&Mask::AllFalse(6))), "5 is not 6"),
+            (|| ok(Mask::AllTrue(4).try_to_bitand_not(&five())), "4 is not 5"),
         ],
         &[
-            || ok(five().to_bitand_not(&mask("10111"))),
-            || ok(five().to_bitand_not(&Mask::AllFalse(5))),
+            || ok(five().try_to_bitand_not(&mask("10111"))),
+            || ok(five().try_to_bitand_not(&Mask::AllFalse(5))),
         ],
     ),
     (
-        "Mask::into_bitand",
+        "Mask::try_into_bitand",
         "",
         "`into_bitand`: Masks must have the same length: ",
         &[
-            (|| ok(five().into_bitand(&mask("1011"))), "5 is not 4"),
-            (|| ok(five().into_bitand(&Mask::AllTrue(6))), "5 is not 6"),
-            (|| ok(Mask::AllTrue(4).into_bitand(&five())), "4 is not 5"),
+            (|| ok(five().try_into_bitand(&mask("1011"))), "5 is not 4"),
+            (|| ok(five().try_into_bitand(&Mask::AllTrue(6))), "5 is not 6"),
+            (|| ok(Mask::AllTrue(4).try_into_bitand(&five())), "4 is not 5"),
         ],
-        &[|| ok(five().into_bitand(&mask("10111"))), || ok(five().into_bitand(&Mask::AllTrue(5)))],
+        &[
+            || ok(five().try_into_bitand(&mask("10111"))),
+            || ok(five().try_into_bitand(&Mask::AllTrue(5))),
+        ],
     ),
     (
-        "Mask::into_bitor",
+        "Mask::try_into_bitor",
         "",
         "`into_bitor`: Masks must have the same length: ",
         &[
-            (|| ok(five().into_bitor(&mask("1011"))), "5 is not 4"),
-            (|| ok(five().into_bitor(&Mask::AllFalse(6))), "5 is not 6"),
-            (|| ok(Mask::AllFalse(4).into_bitor(&five())), "4 is not 5"),
+            (|| ok(five().try_into_bitor(&mask("1011"))), "5 is not 4"),
+            (|| ok(five().try_into_bitor(&Mask::AllFalse(6))), "5 is not 6"),
+            (|| ok(Mask::AllFalse(4).try_into_bitor(&five())), "4 is not 5"),
         ],
-        &[|| ok(five().into_bitor(&mask("10111"))), || ok(five().into_bitor(&Mask::AllFalse(5)))],
+        &[
+            || ok(five().try_into_bitor(&mask("10111"))),
+            || ok(five().try_into_bitor(&Mask::AllFalse(5))),
+        ],
     ),
     (
-        "Mask::bitand_not",
+        "Mask::try_bitand_not",
         "",
         "`bitand_not`: Masks must have the same length: ",
         &[
-            (|| ok(five().bitand_not(&mask("1011"))), "5 is not 4"),
-            (|| ok(five().bitand_not(&Mask::AllFalse(6))), "5 is not 6"),
-            (|| ok(Mask::AllTrue(4).bitand_not(&five())), "4 is not 5"),
+            (|| ok(five().try_bitand_not(&mask("1011"))), "5 is not 4"),
+            (|| ok(five().try_bitand_not(&Mask::AllFalse(6))), "5 is not 6"),
+            (|| ok(Mask::AllTrue(4).try_bitand_not(&five())), "4 is not 5"),
         ],
-        &[|| ok(five().bitand_not(&mask("10111"))), || ok(five().bitand_not(&Mask::AllFalse(5)))],
-    ),
-    (
-        "Mask::threshold_iter",
-        "",
-        "`threshold_iter` needs `den > 0`: ",
         &[
-            (|| ok(five().threshold_iter(0, 0)), "0 is not above 0"),
-            (|| ok(Mask::AllTrue(5).threshold_iter(1, 0)), "0 is not above 0"),
+            || ok(five().try_bitand_not(&mask("10111"))),
+            || ok(five().try_bitand_not(&Mask::AllFalse(5))),
         ],
-        &[|| ok(five().threshold_iter(0, 1)), || ok(five().threshold_iter(MAX, 1))],
-    ),
-    (
-        "MaskValues::threshold_iter",
-        "",
-        "`threshold_iter` needs `den > 0`: ",
-        &[
-            (|| ok(values().threshold_iter(0, 0)), "0 is not above 0"),
-            (|| ok(values().threshold_iter(MAX, 0)), "0 is not above 0"),
-        ],
-        &[|| ok(values().threshold_iter(0, 1)), || ok(values().threshold_iter(MAX, MAX))],
     ),
     (
         "Fraction::at_least",
@@ -306,7 +329,7 @@ pub const ROWS: &[Row] = &[
         &[|| done(share(0, 1).at_least(share(1, 1)))],
     ),
     (
-        "Mask::from_buffer_with_slices",
+        "Mask::try_from_buffer_with_slices",
         "",
         "`from_buffer_with_slices`",
         &[
@@ -361,7 +384,7 @@ pub const ROWS: &[Row] = &[
         ],
     ),
     (
-        "Mask::from_intersection_indices",
+        "Mask::try_from_intersection_indices",
         "lhs_ascends",
         "`from_intersection_indices` needs each of `lhs` above the one before it: ",
         &[
@@ -373,7 +396,7 @@ pub const ROWS: &[Row] = &[
         &[|| common(&[0, 1, 8, 100], &[1]), || common(&[], &[]), || common(&[MAX], &[0])],
     ),
     (
-        "Mask::from_intersection_indices",
+        "Mask::try_from_intersection_indices",
         "rhs_ascends",
         "`from_intersection_indices` needs each of `rhs` above the one before it: ",
         &[
@@ -385,62 +408,65 @@ pub const ROWS: &[Row] = &[
         &[|| common(&[1], &[0, 1, 8, 100]), || common(&[0], &[MAX])],
     ),
     (
-        "Mask::intersect_by_rank",
+        "Mask::try_intersect_by_rank",
         "",
         "`intersect_by_rank` needs a rank mask as long as the mask's count of true values: ",
         &[
-            (|| ok(five().intersect_by_rank(&mask("10"))), "2 is not 3"),
-            (|| ok(five().intersect_by_rank(&mask("1011"))), "4 is not 3"),
-            (|| ok(five().intersect_by_rank(&Mask::AllTrue(5))), "5 is not 3"),
-            (|| ok(Mask::AllFalse(5).intersect_by_rank(&Mask::AllFalse(1))), "1 is not 0"),
+            (|| ok(five().try_intersect_by_rank(&mask("10"))), "2 is not 3"),
+            (|| ok(five().try_intersect_by_rank(&mask("1011"))), "4 is not 3"),
+            (|| ok(five().try_intersect_by_rank(&Mask::AllTrue(5))), "5 is not 3"),
+            (|| ok(Mask::AllFalse(5).try_intersect_by_rank(&Mask::AllFalse(1))), "1 is not 0"),
         ],
         &[
-            || ok(five().intersect_by_rank(&mask("101"))),
-            || ok(five().intersect_by_rank(&Mask::AllTrue(3))),
-            || ok(Mask::AllFalse(5).intersect_by_rank(&Mask::AllTrue(0))),
+            || ok(five().try_intersect_by_rank(&mask("101"))),
+            || ok(five().try_intersect_by_rank(&Mask::AllTrue(3))),
+            || ok(Mask::AllFalse(5).try_intersect_by_rank(&Mask::AllTrue(0))),
         ],
     ),
     (
-        "Mask::intersect_by_rank_counted",
+        "Mask::try_intersect_by_rank_counted",
         "",
         "`intersect_by_rank_counted` needs a rank mask as long as the mask's count of true values: ",
         &[
-            (|| ok(five().intersect_by_rank_counted(&mask("10"))), "2 is not 3"),
-            (|| ok(five().intersect_by_rank_counted(&mask("1011"))), "4 is not 3"),
-            (|| ok(Mask::AllTrue(5).intersect_by_rank_counted(&Mask::AllFalse(4))), "4 is not 5"),
+            (|| ok(five().try_intersect_by_rank_counted(&mask("10"))), "2 is not 3"),
+            (|| ok(five().try_intersect_by_rank_counted(&mask("1011"))), "4 is not 3"),
+            (
+                || ok(Mask::AllTrue(5).try_intersect_by_rank_counted(&Mask::AllFalse(4))),
+                "4 is not 5",
+            ),
         ],
         &[
-            || ok(five().intersect_by_rank_counted(&mask("101"))),
-            || ok(Mask::AllTrue(5).intersect_by_rank_counted(&five())),
+            || ok(five().try_intersect_by_rank_counted(&mask("101"))),
+            || ok(Mask::AllTrue(5).try_intersect_by_rank_counted(&five())),
         ],
     ),
     (
-        "Mask::intersect_all_by_rank",
+        "Mask::try_intersect_all_by_rank",
         "",
         "`intersect_all_by_rank` needs each mask as long as the one before it has true values: ",
         &[
-            (|| ok(five().intersect_all_by_rank(&[mask("10")])), "item 0 has length 2, not 3"),
+            (|| ok(five().try_intersect_all_by_rank(&[mask("10")])), "item 0 has length 2, not 3"),
             (
-                || ok(five().intersect_all_by_rank(&[mask("101"), mask("1")])),
+                || ok(five().try_intersect_all_by_rank(&[mask("101"), mask("1")])),
                 "item 1 has length 1, not 2",
             ),
             (
-                || ok(five().intersect_all_by_rank(&[mask("101"), mask("101")])),
+                || ok(five().try_intersect_all_by_rank(&[mask("101"), mask("101")])),
                 "item 1 has length 3, not 2",
             ),
             (
-                || ok(five().intersect_all_by_rank(&[mask("101"), mask("10"), mask("10")])),
+                || ok(five().try_intersect_all_by_rank(&[mask("101"), mask("10"), mask("10")])),
                 "item 2 has length 2, not 1",
             ),
             (
-                || ok(five().intersect_all_by_rank(&[mask("000"), mask("1")])),
+                || ok(five().try_intersect_all_by_rank(&[mask("000"), mask("1")])),
                 "item 1 has length 1, not 0",
             ),
         ],
         &[
-            || ok(five().intersect_all_by_rank(&[])),
-            || ok(five().intersect_all_by_rank(&[mask("101"), mask("10"), mask("1")])),
-            || ok(five().intersect_all_by_rank(&[mask("000"), mask("")])),
+            || ok(five().try_intersect_all_by_rank(&[])),
+            || ok(five().try_intersect_all_by_rank(&[mask("101"), mask("10"), mask("1")])),
+            || ok(five().try_intersect_all_by_rank(&[mask("000"), mask("")])),
         ],
     ),
 ];

@@ -53,7 +53,12 @@ impl<T: TryClone> AllOr<&T> {
     /// - *clone*: `IfErr result (λ _. MatchAllOr self.entry ⊥ ⊥ (λ x. ¬ (T.is_infallible x.now)))`
     /// - *refused*: `IsOkUnless result (MaskError.Memory alloc_error)`
     #[inline]
-    pub fn cloned(self) -> Result<AllOr<T>, MaskError> {
+    pub fn try_cloned(self) -> Result<AllOr<T>, MaskError> {
+        self.cloned_proved()
+    }
+
+    #[inline]
+    pub(crate) fn cloned_proved(self) -> Result<AllOr<T>, MaskError> {
         match self {
             AllOr::All => Ok(AllOr::All),
             AllOr::None => Ok(AllOr::None),

@@ -27,7 +27,7 @@ impl Mask {
     /// - *refused*: `IsOkUnless result (MaskError.Memory alloc_error)`
     #[inline]
     #[track_caller]
-    pub fn choose<T: Copy>(&self, rows: &[T]) -> Result<Vec<T>, MaskError> {
+    pub fn try_choose<T: Copy>(&self, rows: &[T]) -> Result<Vec<T>, MaskError> {
         crate::conditions::need_equal(
             rows.len(),
             self.len(),

@@ -30,7 +30,7 @@ impl Mask {
     /// - *refused*: `IsOkUnless result (MaskError.Memory alloc_error)`
     #[inline]
     #[track_caller]
-    pub fn choose_values(&self, of: &Mask) -> Result<Mask, MaskError> {
+    pub fn try_choose_values(&self, of: &Mask) -> Result<Mask, MaskError> {
         crate::conditions::need_equal(
             of.len(),
             self.len(),
@@ -52,7 +52,7 @@ impl Mask {
             (Mask::AllFalse(_), Mask::Values(_)) => Ok(Mask::AllFalse(0)),
             (Mask::Values(chosen), Mask::Values(values)) => {
                 let bits = chosen.bit_buffer().choose_values_proved(values.bit_buffer())?;
-                Mask::from_buffer(bits)
+                Mask::from_buffer_proved(bits)
             }
         }
     }

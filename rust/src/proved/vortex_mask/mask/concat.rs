@@ -49,8 +49,12 @@ impl Mask {
     /// - *refused*: `IfErr result (λ e. (e ≡ MaskError.Memory alloc_error) ⊎ ((ms : List mask) × Drains I.next_gives masks ms × (e ≡ MaskError.LengthOverflow) × (2 ^ 64 ≤ total_len (map truth ms))))`
     /// - *refused_whole*: `IfErr result (λ e. (e ≡ MaskError.Memory alloc_error) ⊎ WholeRun I.next_gives masks (λ p. (e ≡ MaskError.LengthOverflow) × (2 ^ 64 ≤ total_len (map truth p.items))))`
     #[inline]
-    pub fn from_masks<I: IntoIterator<Item = Mask>>(masks: I) -> Result<Mask, MaskError> {
-        let masks = masks.into_iter();
+    pub fn try_from_masks<I: IntoIterator<Item = Mask>>(masks: I) -> Result<Mask, MaskError> {
+        Mask::from_masks_proved::<_>(masks.into_iter())
+    }
+
+    #[inline]
+    pub(crate) fn from_masks_proved<I: Iterator<Item = Mask>>(masks: I) -> Result<Mask, MaskError> {
         let held: Vec<Mask> = masks.try_collected()?;
         concat_list(&held)
     }
@@ -113,13 +117,13 @@ fn total_len<M: AsMask>(masks: &[M]) -> Option<usize> {
 // know their counts, so no value is counted again.
 #[inline]
 fn buffer_of<M: AsMask>(len: usize, masks: &[M]) -> Result<(BitBuffer, usize), AllocError> {
-    let mut buffer = BitBufferMut::with_capacity(len)?;
+    let mut buffer = BitBufferMut::with_capacity_proved(len)?;
     let mut true_count = 0;
     for mask in masks {
         append(&mut buffer, mask.as_mask())?;
         true_count += mask.as_mask().true_count();
     }
-    Ok((buffer.freeze()?, true_count))
+    Ok((buffer.freeze_proved()?, true_count))
 }
 
 #[inline]

@@ -18,7 +18,12 @@ impl Mask {
     /// - *uniform*: `IsUniform (values buffer) → IsOk result`
     /// - *refused*: `IsOkUnless result (MaskError.Memory alloc_error)`
     #[inline]
-    pub fn from_buffer(buffer: BitBuffer) -> Result<Mask, MaskError> {
+    pub fn try_from_buffer(buffer: BitBuffer) -> Result<Mask, MaskError> {
+        Mask::from_buffer_proved(buffer)
+    }
+
+    #[inline]
+    pub(crate) fn from_buffer_proved(buffer: BitBuffer) -> Result<Mask, MaskError> {
         let true_count = buffer.true_count();
         Mask::from_counted_buffer(buffer, true_count, None)
     }
@@ -40,7 +45,7 @@ impl Mask {
     /// - *refused*: `IsOkUnless result (MaskError.Memory alloc_error)`
     #[inline]
     #[track_caller]
-    pub fn from_buffer_with_slices(
+    pub fn try_from_buffer_with_slices(
         buffer: BitBuffer,
         mut ranges: Vec<(usize, usize)>,
     ) -> Result<Mask, MaskError> {
@@ -73,10 +78,14 @@ impl Mask {
     /// - *caches*: `IfOk result (λ m. caches m ≡ no_caches)`
     /// - *refused*: `IsOkUnless result (MaskError.Memory alloc_error)`
     #[inline]
-    pub fn from_bools<I: IntoIterator<Item = bool>>(bools: I) -> Result<Mask, MaskError> {
-        let bools = bools.into_iter();
-        let buffer = BitBuffer::from_bools(bools)?;
-        Mask::from_buffer(buffer)
+    pub fn try_from_bools<I: IntoIterator<Item = bool>>(bools: I) -> Result<Mask, MaskError> {
+        Mask::from_bools_proved::<_>(bools.into_iter())
+    }
+
+    #[inline]
+    pub(crate) fn from_bools_proved<I: Iterator<Item = bool>>(bools: I) -> Result<Mask, MaskError> {
+        let buffer = BitBuffer::from_bools_proved(bools)?;
+        Mask::from_buffer_proved(buffer)
     }
 
     /// What a test answers of each row, in their order: value `i` is its answer of row `i`. No rows give `AllFalse(0)`.
@@ -95,9 +104,17 @@ impl Mask {
     /// - *caches*: `IfOk result (λ m. caches m ≡ no_caches)`
     /// - *refused*: `IsOkUnless result (MaskError.Memory alloc_error)`
     #[inline]
-    pub fn from_rows<T, F: Fn(&T) -> bool>(rows: &[T], test: F) -> Result<Mask, MaskError> {
-        let buffer = BitBuffer::from_rows(rows, test)?;
-        Mask::from_buffer(buffer)
+    pub fn try_from_rows<T, F: Fn(&T) -> bool>(rows: &[T], test: F) -> Result<Mask, MaskError> {
+        Mask::from_rows_proved::<T, F>(rows, test)
+    }
+
+    #[inline]
+    pub(crate) fn from_rows_proved<T, F: Fn(&T) -> bool>(
+        rows: &[T],
+        test: F,
+    ) -> Result<Mask, MaskError> {
+        let buffer = BitBuffer::from_rows_proved(rows, test)?;
+        Mask::from_buffer_proved(buffer)
     }
 }
 
@@ -125,10 +142,15 @@ impl Mask {
     /// - *list*: `IfOk result (λ b. values b ≡ truth self.now)`
     /// - *refused*: `IsOkUnless result (MaskError.Memory alloc_error)`
     #[inline]
-    pub fn to_bit_buffer(&self) -> Result<BitBuffer, MaskError> {
+    pub fn try_to_bit_buffer(&self) -> Result<BitBuffer, MaskError> {
+        self.to_bit_buffer_proved()
+    }
+
+    #[inline]
+    pub(crate) fn to_bit_buffer_proved(&self) -> Result<BitBuffer, MaskError> {
         match self {
-            Mask::AllTrue(len) => Ok(BitBuffer::new_set(*len)?),
-            Mask::AllFalse(len) => Ok(BitBuffer::new_unset(*len)?),
+            Mask::AllTrue(len) => Ok(BitBuffer::new_set_proved(*len)?),
+            Mask::AllFalse(len) => Ok(BitBuffer::new_unset_proved(*len)?),
             Mask::Values(values) => Ok(values.bit_buffer().clone()?),
         }
     }
@@ -140,10 +162,15 @@ impl Mask {
     /// - *list*: `IfOk result (λ b. values b ≡ truth self)`
     /// - *refused*: `IsOkUnless result (MaskError.Memory alloc_error)`
     #[inline]
-    pub fn into_bit_buffer(self) -> Result<BitBuffer, MaskError> {
+    pub fn try_into_bit_buffer(self) -> Result<BitBuffer, MaskError> {
+        self.into_bit_buffer_proved()
+    }
+
+    #[inline]
+    pub(crate) fn into_bit_buffer_proved(self) -> Result<BitBuffer, MaskError> {
         match self {
-            Mask::AllTrue(len) => Ok(BitBuffer::new_set(len)?),
-            Mask::AllFalse(len) => Ok(BitBuffer::new_unset(len)?),
+            Mask::AllTrue(len) => Ok(BitBuffer::new_set_proved(len)?),
+            Mask::AllFalse(len) => Ok(BitBuffer::new_unset_proved(len)?),
             Mask::Values(values) => Ok(MaskValues::buffer_of(values)?),
         }
     }

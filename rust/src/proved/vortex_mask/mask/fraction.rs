@@ -54,11 +54,16 @@ impl Mask {
     /// - *share*: `result.num * length (truth self.now) ≡ count (truth self.now) * result.den`
     /// - *positive*: `0 < result.den`
     #[inline]
-    pub fn density(&self) -> Fraction {
+    pub fn share(&self) -> Fraction {
+        self.density_proved()
+    }
+
+    #[inline]
+    pub(crate) fn density_proved(&self) -> Fraction {
         match self {
             Mask::AllTrue(_) => Fraction { num: 1, den: 1 },
             Mask::AllFalse(_) => Fraction { num: 0, den: 1 },
-            Mask::Values(values) => values.density(),
+            Mask::Values(values) => values.density_proved(),
         }
     }
 }
@@ -71,7 +76,12 @@ impl MaskValues {
     /// - *share*: `result ≡ share (values self.now.buffer)`
     /// - *positive*: `0 < result.den`
     #[inline]
-    pub fn density(&self) -> Fraction {
+    pub fn share(&self) -> Fraction {
+        self.density_proved()
+    }
+
+    #[inline]
+    pub(crate) fn density_proved(&self) -> Fraction {
         Fraction { num: self.true_count(), den: self.len() }
     }
 }

@@ -31,12 +31,19 @@ impl Mask {
     /// - *caches*: `IfOk result (λ m. caches m ≡ where_mixed m (only_indices (positions (truth m))))`
     /// - *refused*: `IfErr result (λ e. (e ≡ MaskError.Memory alloc_error) ⊎ ((xs : List ℕ) × Drains I.next_gives indices xs × (index_fault len xs ≡ Some e)))`
     /// - *refused_whole*: `IfErr result (λ e. (e ≡ MaskError.Memory alloc_error) ⊎ WholeRun I.next_gives indices (λ p. index_fault len p.items ≡ Some e))`
-    #[inline(always)]
-    pub fn from_indices<I: IntoIterator<Item = usize>>(
+    #[inline]
+    pub fn try_from_indices<I: IntoIterator<Item = usize>>(
         len: usize,
         indices: I,
     ) -> Result<Mask, MaskError> {
-        let indices = indices.into_iter();
+        Mask::from_indices_proved::<_>(len, indices.into_iter())
+    }
+
+    #[inline]
+    pub(crate) fn from_indices_proved<I: Iterator<Item = usize>>(
+        len: usize,
+        indices: I,
+    ) -> Result<Mask, MaskError> {
         let indices: Vec<usize> = indices.try_collected()?;
         if let Some(fault) = index_fault(len, &indices) {
             return Err(fault);
@@ -51,7 +58,7 @@ impl Mask {
 /// # Proved ([terms](crate::definitions))
 ///
 /// - `result ≡ index_fault len indices.now`
-#[inline(always)]
+#[inline]
 pub fn index_fault(len: usize, indices: &[usize]) -> Option<MaskError> {
     // one quick scan tells that there is no fault, and the slower ones which it is
     if let Some(last) = indices.last() {
@@ -69,7 +76,7 @@ pub fn index_fault(len: usize, indices: &[usize]) -> Option<MaskError> {
 }
 
 // The first place whose index is below the one before it.
-#[inline(always)]
+#[inline]
 fn first_unsorted(indices: &[usize]) -> Option<usize> {
     for at in 1..indices.len() {
         if indices[at] < indices[at - 1] {
@@ -80,7 +87,7 @@ fn first_unsorted(indices: &[usize]) -> Option<usize> {
 }
 
 // The first place whose index equals the one before it.
-#[inline(always)]
+#[inline]
 fn first_repeated(indices: &[usize]) -> Option<usize> {
     for at in 1..indices.len() {
         if indices[at] == indices[at - 1] {
@@ -91,7 +98,7 @@ fn first_repeated(indices: &[usize]) -> Option<usize> {
 }
 
 // The first index that is not below the length.
-#[inline(always)]
+#[inline]
 fn out_of_bounds(len: usize, indices: &[usize]) -> Option<MaskError> {
     let index = *indices.iter().find(|index| **index >= len)?;
     Some(MaskError::IndexOutOfBounds { index, len })
@@ -120,12 +127,19 @@ impl Mask {
     /// - *refused*: `IfErr result (λ e. (e ≡ MaskError.Memory alloc_error) ⊎ ((xs : List ℕ) × Drains I.next_gives indices xs × (out_of_bounds len xs ≡ Some e)))`
     /// - *refused_whole*: `IfErr result (λ e. (e ≡ MaskError.Memory alloc_error) ⊎ WholeRun I.next_gives indices (λ p. out_of_bounds len p.items ≡ Some e))`
     #[inline]
-    pub fn from_excluded_indices<I: IntoIterator<Item = usize>>(
+    pub fn try_from_excluded_indices<I: IntoIterator<Item = usize>>(
         len: usize,
         indices: I,
     ) -> Result<Mask, MaskError> {
-        let indices = indices.into_iter();
-        let mut builder = BitBufferMut::new_set(len)?;
+        Mask::from_excluded_indices_proved::<_>(len, indices.into_iter())
+    }
+
+    #[inline]
+    pub(crate) fn from_excluded_indices_proved<I: Iterator<Item = usize>>(
+        len: usize,
+        indices: I,
+    ) -> Result<Mask, MaskError> {
+        let mut builder = BitBufferMut::new_set_proved(len)?;
         if let Some(index) = exclude(&mut builder, indices) {
             return Err(MaskError::IndexOutOfBounds { index, len });
         }
@@ -138,8 +152,8 @@ impl Mask {
         if builder.len() == 0 {
             return Ok(Mask::AllTrue(0));
         }
-        let builder = builder.freeze()?;
-        Mask::from_buffer(builder)
+        let builder = builder.freeze_proved()?;
+        Mask::from_buffer_proved(builder)
     }
 }
 
@@ -190,7 +204,7 @@ impl Mask {
     /// - *refused_whole*: `IfErr result (λ e. (e ≡ MaskError.Memory alloc_error) ⊎ WholeRun L.next_gives lhs (λ p. WholeRun R.next_gives rhs (λ q. out_of_bounds len (common p.items q.items) ≡ Some e)))`
     #[track_caller]
     #[inline]
-    pub fn from_intersection_indices<
+    pub fn try_from_intersection_indices<
         L: IntoIterator<Item = usize>,
         R: IntoIterator<Item = usize>,
     >(

@@ -27,7 +27,15 @@ impl Mask {
     /// - *refused*: `IfErr result (λ e. (e ≡ MaskError.Memory alloc_error) ⊎ (range_fault len ranges.items ≡ Some e))`
     /// - *uniform*: `range_fault len ranges.items ≡ None → (rows_held ranges.items ≡ 0) ⊎ (rows_held ranges.items ≡ len) → IsOk result`
     #[inline]
-    pub fn from_slices(len: usize, ranges: Vec<(usize, usize)>) -> Result<Mask, MaskError> {
+    pub fn try_from_slices(len: usize, ranges: Vec<(usize, usize)>) -> Result<Mask, MaskError> {
+        Mask::from_slices_proved(len, ranges)
+    }
+
+    #[inline]
+    pub(crate) fn from_slices_proved(
+        len: usize,
+        ranges: Vec<(usize, usize)>,
+    ) -> Result<Mask, MaskError> {
         if let Some(fault) = range_fault(len, &ranges) {
             return Err(fault);
         }

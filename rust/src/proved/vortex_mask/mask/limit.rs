@@ -21,7 +21,12 @@ impl Mask {
     /// - *none*: `k ≡ 0 → IsOk result`
     /// - *refused*: `IsOkUnless result (MaskError.Memory alloc_error)`
     #[inline]
-    pub fn limit(self, k: usize) -> Result<Mask, MaskError> {
+    pub fn try_limit(self, k: usize) -> Result<Mask, MaskError> {
+        self.limit_proved(k)
+    }
+
+    #[inline]
+    pub(crate) fn limit_proved(self, k: usize) -> Result<Mask, MaskError> {
         if self.true_count() <= k {
             return Ok(self);
         }
@@ -43,7 +48,12 @@ impl Mask {
     /// - *none*: `k ≡ 0 → 0 < count (truth self.now) → IsOk result`
     /// - *refused*: `IsOkUnless result (MaskError.Memory alloc_error)`
     #[inline]
-    pub fn to_limited(&self, k: usize) -> Result<Mask, MaskError> {
+    pub fn try_to_limited(&self, k: usize) -> Result<Mask, MaskError> {
+        self.to_limited_proved(k)
+    }
+
+    #[inline]
+    pub(crate) fn to_limited_proved(&self, k: usize) -> Result<Mask, MaskError> {
         if self.true_count() <= k {
             return self.clone();
         }
@@ -64,10 +74,10 @@ impl Mask {
     fn first_true(&self, k: usize) -> Result<BitBuffer, AllocError> {
         let len = self.len();
         let end = self.rank_proved(k);
-        let mut bits = BitBufferMut::with_capacity(len)?;
+        let mut bits = BitBufferMut::with_capacity_proved(len)?;
         self.append_front(&mut bits, end)?;
         bits.append_n_proved(false, len - bits.len())?;
-        bits.freeze()
+        bits.freeze_proved()
     }
 
     // Appends the values before index `end`.

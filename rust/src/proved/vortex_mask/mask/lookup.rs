@@ -29,7 +29,7 @@ impl MaskValues {
     }
 
     // The index of the last true value.
-    #[inline(always)]
+    #[inline]
     pub(super) fn last_index(&self) -> usize {
         let buffer = self.bit_buffer();
         if let Some(indices) = self.cached_indices() {

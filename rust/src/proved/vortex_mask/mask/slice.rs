@@ -23,7 +23,7 @@ impl Mask {
     /// - *refused*: `IsOkUnless result (MaskError.Memory alloc_error)`
     #[inline]
     #[track_caller]
-    pub fn slice(&self, start: usize, end: usize) -> Result<Mask, MaskError> {
+    pub fn try_slice(&self, start: usize, end: usize) -> Result<Mask, MaskError> {
         crate::conditions::need_at_most(
             start,
             end,
@@ -47,7 +47,7 @@ impl Mask {
                 if end - start == buffer.len() {
                     return self.clone();
                 }
-                Mask::from_buffer(buffer.slice_proved(start, end)?)
+                Mask::from_buffer_proved(buffer.slice_proved(start, end)?)
             }
         }
     }
@@ -70,7 +70,7 @@ impl Mask {
     /// - *refused*: `IsOkUnless result (MaskError.Memory alloc_error)`
     #[inline]
     #[track_caller]
-    pub fn groups(&self, size: usize) -> Result<Vec<Mask>, MaskError> {
+    pub fn try_groups(&self, size: usize) -> Result<Vec<Mask>, MaskError> {
         crate::conditions::need_above(size, 0, &["`groups` needs `size > 0`: ", " is not above "]);
         self.groups_proved(size)
     }

@@ -4,6 +4,7 @@
 use crate::kit::AllocError;
 use crate::kit::prelude::*;
 use crate::proved::mask_bits::BitBuffer;
+use crate::proved::vortex_mask::cached_list::{Cached, cached};
 use crate::proved::vortex_mask::mask::{MaskError, MaskIter};
 use ::core::fmt;
 
@@ -18,8 +19,8 @@ pub type MaskValuesRef = Arc<MaskValues>;
 pub struct MaskValues {
     buffer: BitBuffer,
     true_count: usize,
-    indices: Option<Vec<usize>>,
-    slices: Option<Vec<(usize, usize)>>,
+    pub(crate) indices: Cached<usize>,
+    pub(crate) slices: Cached<(usize, usize)>,
 }
 
 impl fmt::Debug for MaskValues {
@@ -39,7 +40,7 @@ impl MaskValues {
         indices: Option<Vec<usize>>,
         slices: Option<Vec<(usize, usize)>>,
     ) -> MaskValues {
-        MaskValues { buffer, true_count, indices, slices }
+        MaskValues { buffer, true_count, indices: cached(indices), slices: cached(slices) }
     }
 
     /// How many values there are.
@@ -93,6 +94,11 @@ impl MaskValues {
     /// - `result ≡ self.buffer`
     #[inline]
     pub fn into_bit_buffer(self) -> BitBuffer {
+        self.into_bit_buffer_proved()
+    }
+
+    #[inline]
+    pub(crate) fn into_bit_buffer_proved(self) -> BitBuffer {
         let MaskValues { buffer, true_count: _, indices: _, slices: _ } = self;
         buffer
     }
@@ -128,7 +134,7 @@ impl MaskValues {
     ///
     /// - *cached*: `option_map (λ indices. indices.now) result ≡ self.now.caches.indices`
     /// - *whole*: `AreOf (values self.now.buffer) self.now.caches`
-    #[inline(always)]
+    #[inline]
     pub fn cached_indices(&self) -> Option<&[usize]> {
         self.indices.as_deref()
     }
@@ -139,7 +145,7 @@ impl MaskValues {
     ///
     /// - *cached*: `option_map (λ ranges. ranges.now) result ≡ self.now.caches.ranges`
     /// - *whole*: `AreOf (values self.now.buffer) self.now.caches`
-    #[inline(always)]
+    #[inline]
     pub fn cached_slices(&self) -> Option<&[(usize, usize)]> {
         self.slices.as_deref()
     }
@@ -148,7 +154,7 @@ impl MaskValues {
     #[inline]
     pub(crate) fn buffer_of(held: MaskValuesRef) -> Result<BitBuffer, AllocError> {
         match Arc::try_unwrap(held) {
-            Ok(own) => Ok(own.into_bit_buffer()),
+            Ok(own) => Ok(own.into_bit_buffer_proved()),
             Err(shared) => shared.bit_buffer().clone(),
         }
     }
@@ -159,7 +165,7 @@ impl MaskValues {
     ///
     /// - *same*: `IfOk result (λ v. v ≡ self.now)`
     /// - *refused*: `IsOkUnless result (MaskError.Memory alloc_error)`
-    #[inline(always)]
+    #[inline]
     pub fn try_clone(&self) -> Result<MaskValues, MaskError> {
         Ok(MaskValues {
             buffer: self.buffer.clone()?,
@@ -179,76 +185,6 @@ impl MaskValues {
 ///
 /// Where being out of memory refuses one, the cached lists stay as they were.
 impl MaskValues {
-    /// The true indices, ascending.
-    ///
-    /// # Proved ([terms](crate::definitions))
-    ///
-    /// - *list*: `IfOk result (λ indices. indices.now ≡ positions (values self.old.buffer))`
-    /// - *after*: `sem 𝓛 (Rests the_row self.entry (λ new. IfOk result (λ indices. new ≡ with_caches (with_indices indices.now self.old.caches) self.old) × OnErr result (new ≡ self.old)))`
-    /// - *cached*: `IsSome self.old.caches.indices → IsOk result`
-    /// - *refused*: `IsOkUnless result (MaskError.Memory alloc_error)`
-    #[inline]
-    pub fn indices(&mut self) -> Result<&[usize], MaskError> {
-        self.indices_proved()
-    }
-
-    #[inline]
-    pub(crate) fn indices_proved(&mut self) -> Result<&[usize], MaskError> {
-        self.cache_list(false)?;
-        Ok(self.cached_indices().unwrap())
-    }
-
-    /// The runs of true indices, ascending. Each is its first index and the index past its last.
-    ///
-    /// # Proved ([terms](crate::definitions))
-    ///
-    /// - *list*: `IfOk result (λ ranges. ranges.now ≡ runs (values self.old.buffer))`
-    /// - *after*: `sem 𝓛 (Rests the_row self.entry (λ new. IfOk result (λ ranges. new ≡ with_caches (with_ranges ranges.now self.old.caches) self.old) × OnErr result (new ≡ self.old)))`
-    /// - *cached*: `IsSome self.old.caches.ranges → IsOk result`
-    /// - *refused*: `IsOkUnless result (MaskError.Memory alloc_error)`
-    #[inline]
-    pub fn slices(&mut self) -> Result<&[(usize, usize)], MaskError> {
-        self.cache_list(true)?;
-        Ok(self.cached_slices().unwrap())
-    }
-
-    /// The ranges of `slices` where the share of true values is `num / den` or more, else the list of
-    /// `indices`. The comparison is exact.
-    ///
-    /// # Panics unless ([terms](crate::definitions))
-    ///
-    /// - `0 < den`
-    ///
-    /// # Proved ([terms](crate::definitions))
-    ///
-    /// - *threshold*: `IfOk result (λ lent. IsTrue (lends_ranges lent) ↔ ReachesShare (values self.old.buffer) num den)`
-    /// - *list*: `IfOk result (IsLentOf (values self.old.buffer))`
-    /// - *after*: `sem 𝓛 (Rests the_row self.entry (λ new. IfOk result (λ lent. new ≡ with_caches (with_list lent self.old.caches) self.old) × OnErr result (new ≡ self.old)))`
-    /// - *cached_ranges*: `ReachesShare (values self.old.buffer) num den → IsSome self.old.caches.ranges → IsOk result`
-    /// - *cached_indices*: `count (values self.old.buffer) * den < num * length (values self.old.buffer) → IsSome self.old.caches.indices → IsOk result`
-    /// - *refused*: `IsOkUnless result (MaskError.Memory alloc_error)`
-    #[inline]
-    #[track_caller]
-    pub fn threshold_iter(&mut self, num: usize, den: usize) -> Result<MaskIter<'_>, MaskError> {
-        crate::conditions::need_above(
-            den,
-            0,
-            &["`threshold_iter` needs `den > 0`: ", " is not above "],
-        );
-        self.threshold_iter_proved(num, den)
-    }
-
-    #[inline]
-    pub(crate) fn threshold_iter_proved(
-        &mut self,
-        num: usize,
-        den: usize,
-    ) -> Result<MaskIter<'_>, MaskError> {
-        let by_ranges = self.reaches_share(num, den);
-        self.cache_list(by_ranges)?;
-        Ok(self.lend_list(by_ranges))
-    }
-
     // Whether at least `num` of each `den` values are true.
     #[inline]
     pub(crate) fn reaches_share(&self, num: usize, den: usize) -> bool {
@@ -256,46 +192,8 @@ impl MaskValues {
         true_part >= num as u128 * self.buffer.len() as u128
     }
 
-    // The runs, or the true indices, which are cached.
-    #[inline]
-    pub(super) fn lend_list(&self, by_ranges: bool) -> MaskIter<'_> {
-        if by_ranges {
-            MaskIter::Slices(self.cached_slices().unwrap())
-        } else {
-            MaskIter::Indices(self.cached_indices().unwrap())
-        }
-    }
-
-    // Whether the runs, or the true indices, are cached.
-    #[inline(always)]
-    pub(super) fn has_list(&self, by_ranges: bool) -> bool {
-        if by_ranges { self.slices.is_some() } else { self.indices.is_some() }
-    }
-
-    // Makes the list of the runs, or of the true indices, then caches it, where there is none.
-    #[inline(always)]
-    pub(super) fn cache_list(&mut self, by_ranges: bool) -> Result<(), MaskError> {
-        if self.has_list(by_ranges) {
-            return Ok(());
-        }
-        if by_ranges {
-            self.slices = Some(self.runs()?);
-        } else {
-            self.indices = Some(self.index_list()?);
-        }
-        Ok(())
-    }
-
-    // A clone with that list cached.
-    #[inline(always)]
-    pub(super) fn with_list(&self, by_ranges: bool) -> Result<MaskValues, MaskError> {
-        let mut filled = self.clone()?;
-        filled.cache_list(by_ranges)?;
-        Ok(filled)
-    }
-
     // The true indices, in room that is made once. A cached run takes about as long as a word of bits.
-    #[inline(always)]
+    #[inline]
     pub(crate) fn index_list(&self) -> Result<Vec<usize>, AllocError> {
         match self.cached_slices() {
             Some(ranges) if ranges.len() <= self.len() / 64 => indices_in(ranges, self.true_count),
@@ -305,18 +203,23 @@ impl MaskValues {
 
     // The runs of true indices: by a walk where few values are true, of which most words have none.
     #[inline]
-    fn runs(&self) -> Result<Vec<(usize, usize)>, AllocError> {
+    pub(crate) fn runs(&self) -> Result<Vec<(usize, usize)>, AllocError> {
+        self.runs_proved()
+    }
+
+    #[inline]
+    pub(crate) fn runs_proved(&self) -> Result<Vec<(usize, usize)>, AllocError> {
         if self.true_count < self.buffer.len() / 32 {
             let ranges: Vec<_> = self.buffer.set_slices().try_collected()?;
 
             return Ok(ranges);
         }
-        self.buffer.runs()
+        self.buffer.runs_proved()
     }
 }
 
 // The indices in ranges that hold so many, one range after another.
-#[inline(always)]
+#[inline]
 fn indices_in(ranges: &[(usize, usize)], count: usize) -> Result<Vec<usize>, AllocError> {
     let mut indices = Vec::with_room(count)?;
     for (start, end) in ranges {
@@ -326,7 +229,7 @@ fn indices_in(ranges: &[(usize, usize)], count: usize) -> Result<Vec<usize>, All
 }
 
 // Pushes the indices from `start` to `end`, the end left out, into room that is there.
-#[inline(always)]
+#[inline]
 fn push_range(indices: &mut Vec<usize>, start: usize, end: usize) {
     for index in start..end {
         indices.push_reserved(index);
