@@ -6,7 +6,7 @@ ghost use Rattle.std.specs.Prelude.{◌≡◌};
 pub type Cached<T> = Option<Vec<T>>;
 
 /// A list that was made, or none.
-pub fn cached<T>(list: Option<Vec<T>>) -> Cached<T>
+pub fn cached<T: Drop>(list: Option<Vec<T>>) -> Cached<T>
     ensures { result ≡ list }
 {
     list

@@ -3,7 +3,8 @@
 
 mod bitops;
 // rust: replaced by kit::cached_list
-mod cached_list;
+#[doc(hidden)]
+pub mod cached_list;
 pub mod conditions;
 mod eq;
 pub mod intersect_by_rank;

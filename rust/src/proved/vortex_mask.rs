@@ -3,6 +3,7 @@
 
 use crate::kit::prelude::*;
 mod bitops;
+#[doc(hidden)]
 pub(crate) use crate::kit::cached_list;
 pub mod conditions;
 mod eq;
