@@ -34,7 +34,7 @@
 
 /* The version that a program is compiled for: 10000 * major + 100 * minor + patch. The library that it
  * is linked with says its own by row_mask_version(). */
-#define ROW_MASK_VERSION 500
+#define ROW_MASK_VERSION 600
 
 #if !defined(__cplusplus) && (!defined(__STDC_VERSION__) || __STDC_VERSION__ < 199901L)
 #error "row_mask: C99 or later is needed"

@@ -6,7 +6,7 @@ ghost use Rattle.std.specs.Prelude.{◌≡◌};
 /// one that `ROW_MASK_VERSION` says.
 #[unsafe(no_mangle)]
 pub extern "C" fn row_mask_version() -> u32
-    ensures { result ≡ 500 }
+    ensures { result ≡ 600 }
 {
-    500
+    600
 }

@@ -6,5 +6,5 @@ use crate::kit::prelude::*;
 /// one that `ROW_MASK_VERSION` says.
 #[inline]
 pub fn row_mask_version() -> u32 {
-    500
+    600
 }
