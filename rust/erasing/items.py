@@ -6,6 +6,7 @@ import re
 from erasing import marks
 from erasing.changes import CORE, ELSEWHERE, GONE, INSIDE, PLACES, PROVED, SAME
 from erasing.conditions import TESTS, Condition
+from erasing.examples import leads_to
 from erasing.levels import by_pext, levelled
 from erasing.names import KEPT, Names
 from erasing.tokens import Fault, attached, leaves, spaced
@@ -433,7 +434,8 @@ impl ::core::error::Error for {name} {{}}
             body, levels = self.by_types(function, context, before + inline, body, levels)
             return f"{before}{inline}{function.signature()} {body}{levels}", last + 1
         tests, listed = self.tests(function, clauses, of, where, marked.told)
-        before = documented(before, clauses, tests)
+        leads = leads_to(of, where.rpartition("::")[2], public) if kind == "impl" else ""
+        before = documented(before, clauses, tests, leads)
         tests = [f"{TESTS}::{it};" for it in tests.values()]
         if lists := lists_first(body, listed):
             body = body[:lists] + "\n" + "\n".join(tests) + body[lists:]
@@ -570,9 +572,9 @@ def arm(fields, text):
     return f" {{ {', '.join(used if used == names else [*used, '..'])} }} => write!(f, {text})"
 
 
-def documented(before, clauses, tests):
-    """The comment of a function, with its contract behind it: first what it tests."""
-    lines, parts = [], {"Panics unless": [], "The caller owes": [], "Proved": []}
+def documented(before, clauses, tests, leads=""):
+    """The comment of a function, with where an example is and its contract behind it: first what it tests."""
+    lines, parts = ["", leads] if leads else [], {"Panics unless": [], "The caller owes": [], "Proved": []}
     for word, name, it in clauses:
         part = "Proved" if word == "ensures" else "Panics unless" if it in tests else "The caller owes"
         parts[part].append((name, it))

@@ -45,6 +45,12 @@ pub use walks::{Indices, Runs, Values};
 #[allow(clippy::doc_markdown, reason = "the page is that of the repository")]
 pub mod definitions {}
 
+#[doc = include_str!("examples.md")]
+pub mod examples {}
+
+#[doc = include_str!("../VORTEX_MASK.md")]
+pub mod from_vortex_mask {}
+
 /// Rank intersection by its parts: the kernels, the deposits and selections of a word, and which kernel is taken.
 pub mod intersect_by_rank {
     pub use crate::proved::mask_bits::extract::extract;

@@ -12,6 +12,8 @@ use crate::proved::mask_bits::words::started_words;
 impl BitBuffer {
     /// The values that are true in both.
     ///
+    /// The operator `&` is the same where missing memory ends the process.
+    ///
     /// # Panics unless ([terms](crate::definitions))
     ///
     /// - `length (values self.now) ≡ length (values other.now)`
@@ -37,6 +39,8 @@ impl BitBuffer {
     }
 
     /// The values that are true in one or in both.
+    ///
+    /// The operator `|` is the same where missing memory ends the process.
     ///
     /// # Panics unless ([terms](crate::definitions))
     ///
@@ -64,6 +68,8 @@ impl BitBuffer {
 
     /// The values that are true here and not in `other`.
     ///
+    /// [`bitand_not`](Self::bitand_not) is the same where missing memory ends the process.
+    ///
     /// # Panics unless ([terms](crate::definitions))
     ///
     /// - `length (values self.now) ≡ length (values other.now)`
@@ -90,6 +96,8 @@ impl BitBuffer {
 
     /// The complement: each value negated.
     ///
+    /// The operator `!` is the same where missing memory ends the process.
+    ///
     /// # Proved ([terms](crate::definitions))
     ///
     /// - *list*: `IfOk result (λ b. values b ≡ not_of (values self.now))`
@@ -109,6 +117,8 @@ impl BitBuffer {
 /// nobody else holds them and it begins at a whole one.
 impl BitBuffer {
     /// The values that are true in both.
+    ///
+    /// The operator `&` is the same where missing memory ends the process.
     ///
     /// # Panics unless ([terms](crate::definitions))
     ///
@@ -136,6 +146,8 @@ impl BitBuffer {
 
     /// The values that are true in one or in both.
     ///
+    /// The operator `|` is the same where missing memory ends the process.
+    ///
     /// # Panics unless ([terms](crate::definitions))
     ///
     /// - `length (values self) ≡ length (values other.now)`
@@ -162,6 +174,8 @@ impl BitBuffer {
 
     /// The values that are true here and not in `other`.
     ///
+    /// [`into_bitand_not`](Self::into_bitand_not) is the same where missing memory ends the process.
+    ///
     /// # Panics unless ([terms](crate::definitions))
     ///
     /// - `length (values self) ≡ length (values other.now)`
@@ -187,6 +201,8 @@ impl BitBuffer {
     }
 
     /// The complement: each value negated.
+    ///
+    /// The operator `!` is the same where missing memory ends the process.
     ///
     /// # Proved ([terms](crate::definitions))
     ///

@@ -84,6 +84,8 @@ impl BitBuffer {
 
     /// The first `len` bits of bytes that a caller has written.
     ///
+    /// [`from_vec`](Self::from_vec) is the same where missing memory ends the process.
+    ///
     /// # Panics unless ([terms](crate::definitions))
     ///
     /// - `len ≤ 8 * vec_len bytes`
@@ -110,6 +112,8 @@ impl BitBuffer {
 
     /// `len` true values.
     ///
+    /// [`new_set`](Self::new_set) is the same where missing memory ends the process.
+    ///
     /// # Proved ([terms](crate::definitions))
     ///
     /// - `IfOk result (λ b. values b ≡ repeated len true)`
@@ -126,6 +130,8 @@ impl BitBuffer {
 
     /// `len` false values.
     ///
+    /// [`new_unset`](Self::new_unset) is the same where missing memory ends the process.
+    ///
     /// # Proved ([terms](crate::definitions))
     ///
     /// - `IfOk result (λ b. values b ≡ repeated len false)`
@@ -140,6 +146,8 @@ impl BitBuffer {
     }
 
     /// The list of `len` values that is true exactly at `indices`, in any order and with repeats.
+    ///
+    /// [`from_indices`](Self::from_indices) is the same where missing memory ends the process.
     ///
     /// # Panics unless ([terms](crate::definitions))
     ///
@@ -172,6 +180,8 @@ impl BitBuffer {
     }
 
     /// The values that an iterator yields, in their order.
+    ///
+    /// [`from_bools`](Self::from_bools) is the same where missing memory ends the process.
     ///
     /// # The caller owes ([terms](crate::definitions))
     ///
@@ -206,6 +216,8 @@ impl BitBuffer {
 
     /// A buffer of the same backing bytes, at the same offset and length.
     ///
+    /// [`clone`](Self::clone) is the same where missing memory ends the process.
+    ///
     /// # Proved ([terms](crate::definitions))
     ///
     /// - `IfOk result (λ b. b ≡ self.now)`
@@ -221,6 +233,8 @@ impl BitBuffer {
     }
 
     /// The values from `start` to `end`, over the same bytes at the offset of value `start`.
+    ///
+    /// [`slice`](Self::slice) is the same where missing memory ends the process.
     ///
     /// # Panics unless ([terms](crate::definitions))
     ///

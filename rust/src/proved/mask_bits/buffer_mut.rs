@@ -20,6 +20,8 @@ pub struct BitBufferMut {
 impl BitBufferMut {
     /// An empty list, with room for `n` bits.
     ///
+    /// [`with_capacity`](Self::with_capacity) is the same where missing memory ends the process.
+    ///
     /// # Proved ([terms](crate::definitions))
     ///
     /// - `IfOk result (λ b. b ≡ [])`
@@ -34,6 +36,8 @@ impl BitBufferMut {
     }
 
     /// `len` true values.
+    ///
+    /// [`new_set`](Self::new_set) is the same where missing memory ends the process.
     ///
     /// # Proved ([terms](crate::definitions))
     ///
@@ -51,6 +55,8 @@ impl BitBufferMut {
     }
 
     /// `len` false values.
+    ///
+    /// [`new_unset`](Self::new_unset) is the same where missing memory ends the process.
     ///
     /// # Proved ([terms](crate::definitions))
     ///
@@ -129,6 +135,8 @@ impl BitBufferMut {
 
     /// Appends `value`, `n` times.
     ///
+    /// [`append_n`](Self::append_n) is the same where missing memory ends the process.
+    ///
     /// # Panics unless ([terms](crate::definitions))
     ///
     /// - `length self.old + n < 2 ^ 64`
@@ -157,6 +165,8 @@ impl BitBufferMut {
     }
 
     /// Appends the values of a buffer, whatever its bit offset.
+    ///
+    /// [`append_buffer`](Self::append_buffer) is the same where missing memory ends the process.
     ///
     /// # Panics unless ([terms](crate::definitions))
     ///
@@ -190,6 +200,8 @@ impl BitBufferMut {
     }
 
     /// Appends the lowest `count` bits of a word, the lowest first.
+    ///
+    /// [`push_word`](Self::push_word) is the same where missing memory ends the process.
     ///
     /// # Panics unless ([terms](crate::definitions))
     ///
@@ -225,6 +237,8 @@ impl BitBufferMut {
     }
 
     /// A buffer of the same list.
+    ///
+    /// [`freeze`](Self::freeze) is the same where missing memory ends the process.
     ///
     /// # Proved ([terms](crate::definitions))
     ///

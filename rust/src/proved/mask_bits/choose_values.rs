@@ -13,6 +13,8 @@ impl BitBuffer {
     /// The values of `of` at the true indices of this buffer, in their order: the way back of a
     /// rank intersection. What Arrow calls to filter `of` by this buffer.
     ///
+    /// [`choose_values`](Self::choose_values) is the same where missing memory ends the process.
+    ///
     /// # Panics unless ([terms](crate::definitions))
     ///
     /// - `length (values of.now) ≡ length (values self.now)`

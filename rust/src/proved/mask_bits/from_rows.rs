@@ -16,6 +16,8 @@ impl BitBuffer {
     /// What a test answers of each row, in their order: value `i` is its answer of row `i`. The
     /// answers are packed as they come, 64 to a word, and are listed nowhere else.
     ///
+    /// [`from_rows`](Self::from_rows) is the same where missing memory ends the process.
+    ///
     /// # The caller owes ([terms](crate::definitions))
     ///
     /// - `F.IsAlwaysCallable test`

@@ -28,6 +28,8 @@ impl BitBuffer {
     ///
     /// It takes less time than to collect `set_indices`.
     ///
+    /// [`indices`](Self::indices) is the same where missing memory ends the process.
+    ///
     /// # Panics unless ([terms](crate::definitions))
     ///
     /// - `true_count ≡ count (values self.now)`

@@ -27,6 +27,8 @@ impl BitBuffer {
     ///
     /// It takes less time than to collect `set_slices`.
     ///
+    /// [`runs`](Self::runs) is the same where missing memory ends the process.
+    ///
     /// # Proved ([terms](crate::definitions))
     ///
     /// - `IfOk result (λ ranges. ranges.items ≡ runs (values self.now))`

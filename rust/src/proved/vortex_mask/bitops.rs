@@ -10,6 +10,8 @@ use crate::proved::vortex_mask::mask::{Mask, MaskError, MaskValues};
 impl Mask {
     /// The values that are true in both.
     ///
+    /// The operator `&` is the same where missing memory ends the process, and has an [example](crate::examples#combining-masks).
+    ///
     /// # Panics unless ([terms](crate::definitions))
     ///
     /// - `length (truth self.now) ≡ length (truth other.now)`
@@ -47,6 +49,8 @@ impl Mask {
     }
 
     /// The values that are true in one or in both.
+    ///
+    /// The operator `|` is the same where missing memory ends the process, and has an [example](crate::examples#combining-masks).
     ///
     /// # Panics unless ([terms](crate::definitions))
     ///
@@ -86,6 +90,8 @@ impl Mask {
 
     /// The complement: each value negated.
     ///
+    /// The operator `!` is the same where missing memory ends the process, and has an [example](crate::examples#combining-masks).
+    ///
     /// # Proved ([terms](crate::definitions))
     ///
     /// - *list*: `IfOk result (λ m. truth m ≡ not_of (truth self.now))`
@@ -113,6 +119,8 @@ impl Mask {
     }
 
     /// The values that are true here and not in `other`: `bitand_not` of a mask that is only lent.
+    ///
+    /// [`to_bitand_not`](Self::to_bitand_not) is the same where missing memory ends the process, and has an example.
     ///
     /// # Panics unless ([terms](crate::definitions))
     ///
@@ -156,6 +164,8 @@ impl Mask {
 impl Mask {
     /// The values that are true in both.
     ///
+    /// The operator `&` is the same where missing memory ends the process, and has an [example](crate::examples#combining-masks).
+    ///
     /// # Panics unless ([terms](crate::definitions))
     ///
     /// - `length (truth self) ≡ length (truth other.now)`
@@ -196,6 +206,8 @@ impl Mask {
     }
 
     /// The values that are true in one or in both.
+    ///
+    /// The operator `|` is the same where missing memory ends the process, and has an [example](crate::examples#combining-masks).
     ///
     /// # Panics unless ([terms](crate::definitions))
     ///
@@ -238,6 +250,8 @@ impl Mask {
 
     /// The complement: each value negated.
     ///
+    /// The operator `!` is the same where missing memory ends the process, and has an [example](crate::examples#combining-masks).
+    ///
     /// # Proved ([terms](crate::definitions))
     ///
     /// - *list*: `IfOk result (λ m. truth m ≡ not_of (truth self))`
@@ -264,6 +278,8 @@ impl Mask {
     }
 
     /// The values that are true here and not in `other`.
+    ///
+    /// [`bitand_not`](Self::bitand_not) is the same where missing memory ends the process, and has an example.
     ///
     /// # Panics unless ([terms](crate::definitions))
     ///

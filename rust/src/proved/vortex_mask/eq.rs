@@ -23,6 +23,8 @@ impl Eq for Mask {}
 impl Mask {
     /// Whether these are the values of a buffer.
     ///
+    /// [Example](crate::examples#asking-a-mask)
+    ///
     /// # Proved ([terms](crate::definitions))
     ///
     /// - `IsTrue result ↔ (truth self.now ≡ values buffer.now)`

@@ -36,6 +36,8 @@ impl Mask {
     /// The mask in which the true values of this one are narrowed by a mask over them: true value
     /// number `k` stays true exactly where value `k` of `mask` is true.
     ///
+    /// [`intersect_by_rank`](Self::intersect_by_rank) is the same where missing memory ends the process, and has an example.
+    ///
     /// # Panics unless ([terms](crate::definitions))
     ///
     /// - `length (truth mask.now) ≡ count (truth self.now)`
@@ -82,6 +84,8 @@ impl Mask {
 
     /// The mask of `intersect_by_rank`, with the steps that its kernel takes. No step is counted
     /// where no kernel runs: where a side is all true or all false.
+    ///
+    /// [`intersect_by_rank_counted`](Self::intersect_by_rank_counted) is the same where missing memory ends the process, and has an example.
     ///
     /// # Panics unless ([terms](crate::definitions))
     ///
@@ -152,6 +156,8 @@ impl Mask {
     ///
     /// A stack of filters becomes one by this call. Once the result so far is all false no kernel runs. Which lists of
     /// its true indices the result of one mask or more caches is left open: it depends on each step.
+    ///
+    /// [`intersect_all_by_rank`](Self::intersect_all_by_rank) is the same where missing memory ends the process, and has an example.
     ///
     /// # Panics unless ([terms](crate::definitions))
     ///

@@ -84,6 +84,8 @@ impl fmt::Display for Mask {
 impl Mask {
     /// `len` values, each of them `value`.
     ///
+    /// [Example](crate::examples#making-masks)
+    ///
     /// # Proved ([terms](crate::definitions))
     ///
     /// - `result ≡ (if value then Mask.AllTrue len else Mask.AllFalse len)`
@@ -93,6 +95,8 @@ impl Mask {
     }
 
     /// `len` true values.
+    ///
+    /// [Example](crate::examples#making-masks)
     ///
     /// # Proved ([terms](crate::definitions))
     ///
@@ -104,6 +108,8 @@ impl Mask {
 
     /// `len` false values.
     ///
+    /// [Example](crate::examples#making-masks)
+    ///
     /// # Proved ([terms](crate::definitions))
     ///
     /// - `result ≡ Mask.AllFalse len`
@@ -113,6 +119,8 @@ impl Mask {
     }
 
     /// The same mask, with the lists that this one has cached.
+    ///
+    /// [`clone`](Self::clone) is the same where missing memory ends the process, and has an example.
     ///
     /// # Proved ([terms](crate::definitions))
     ///
@@ -138,6 +146,8 @@ impl Mask {
 
     /// Becomes `AllFalse(0)`. The old values are dropped.
     ///
+    /// [Example](crate::examples#letting-go-of-a-mask)
+    ///
     /// # Proved ([terms](crate::definitions))
     ///
     /// - `self.new ≡ Mask.AllFalse 0`
@@ -150,6 +160,8 @@ impl Mask {
 /// What a mask holds.
 impl Mask {
     /// How many values there are.
+    ///
+    /// [Example](crate::examples#asking-a-mask)
     ///
     /// # Proved ([terms](crate::definitions))
     ///
@@ -164,6 +176,8 @@ impl Mask {
 
     /// Whether there is no value.
     ///
+    /// [Example](crate::examples#asking-a-mask)
+    ///
     /// # Proved ([terms](crate::definitions))
     ///
     /// - `IsTrue result ↔ (truth self.now ≡ [])`
@@ -173,6 +187,8 @@ impl Mask {
     }
 
     /// How many values are true.
+    ///
+    /// [Example](crate::examples#asking-a-mask)
     ///
     /// # Proved ([terms](crate::definitions))
     ///
@@ -189,6 +205,8 @@ impl Mask {
 
     /// How many values are false.
     ///
+    /// [Example](crate::examples#asking-a-mask)
+    ///
     /// # Proved ([terms](crate::definitions))
     ///
     /// - `count (truth self.now) + result ≡ length (truth self.now)`
@@ -198,6 +216,8 @@ impl Mask {
     }
 
     /// Whether each value is true, as of an empty mask.
+    ///
+    /// [Example](crate::examples#asking-a-mask)
     ///
     /// # Proved ([terms](crate::definitions))
     ///
@@ -209,6 +229,8 @@ impl Mask {
 
     /// Whether each value is false, as of an empty mask.
     ///
+    /// [Example](crate::examples#asking-a-mask)
+    ///
     /// # Proved ([terms](crate::definitions))
     ///
     /// - `IsTrue result ↔ All (λ v. v ≡ false) (truth self.now)`
@@ -218,6 +240,8 @@ impl Mask {
     }
 
     /// Value `index`.
+    ///
+    /// [Example](crate::examples#asking-a-mask)
     ///
     /// # Panics unless ([terms](crate::definitions))
     ///
@@ -247,6 +271,8 @@ impl Mask {
     }
 
     /// The index of true value number `n`, counted from 0.
+    ///
+    /// [Example](crate::examples#asking-a-mask)
     ///
     /// # Panics unless ([terms](crate::definitions))
     ///
@@ -278,6 +304,8 @@ impl Mask {
 
     /// The mixed values, or `None` where the mask is all true or all false.
     ///
+    /// [Example](crate::examples#asking-a-mask)
+    ///
     /// # Proved ([terms](crate::definitions))
     ///
     /// - `option_copied result ≡ contents self.now`
@@ -293,6 +321,8 @@ impl Mask {
 /// Counts of a part.
 impl Mask {
     /// How many of the values from `start` to `end` are true.
+    ///
+    /// [Example](crate::examples#asking-a-mask)
     ///
     /// # Panics unless ([terms](crate::definitions))
     ///
@@ -333,6 +363,8 @@ impl Mask {
 impl Mask {
     /// The index of the first true value, if there is one.
     ///
+    /// [Example](crate::examples#asking-a-mask)
+    ///
     /// # Proved ([terms](crate::definitions))
     ///
     /// - *index*: `result ≡ slice_get (positions (truth self.now)) 0`
@@ -347,6 +379,8 @@ impl Mask {
     }
 
     /// The index of the last true value, if there is one.
+    ///
+    /// [Example](crate::examples#asking-a-mask)
     ///
     /// # Proved ([terms](crate::definitions))
     ///
@@ -363,6 +397,8 @@ impl Mask {
 
     /// For each index the number of true values below it. Values are counted once for all indices,
     /// up to the last of them.
+    ///
+    /// [`valid_counts_for_indices`](Self::valid_counts_for_indices) is the same where missing memory ends the process, and has an example.
     ///
     /// # Panics unless ([terms](crate::definitions))
     ///

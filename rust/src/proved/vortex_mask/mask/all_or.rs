@@ -43,6 +43,8 @@ impl<T> AllOr<T> {
 impl<T: TryClone> AllOr<&T> {
     /// Clones the value behind the reference, which its clones have to equal.
     ///
+    /// [`cloned`](Self::cloned) is the same where missing memory ends the process.
+    ///
     /// # The caller owes ([terms](crate::definitions))
     ///
     /// - `ForValue self (λ x. IsOnlyClone T.is_clone x.now)`

@@ -15,6 +15,8 @@ const FAR: usize = 256;
 impl Mask {
     /// The rows at the true indices, in their order.
     ///
+    /// [`choose`](Self::choose) is the same where missing memory ends the process, and has an example.
+    ///
     /// # Panics unless ([terms](crate::definitions))
     ///
     /// - `length rows.now ≡ length (truth self.now)`

@@ -14,6 +14,8 @@ impl Mask {
     ///
     /// Where this mask is all true, the result is a clone of `of`.
     ///
+    /// [`choose_values`](Self::choose_values) is the same where missing memory ends the process, and has an example.
+    ///
     /// # Panics unless ([terms](crate::definitions))
     ///
     /// - `length (truth of.now) ≡ length (truth self.now)`

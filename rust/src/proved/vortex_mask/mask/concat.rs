@@ -12,6 +12,8 @@ impl Mask {
     /// The masks are listed first, so `Memory` may come before `LengthOverflow`, which is reported
     /// where the sum of all lengths is above `usize::MAX`.
     ///
+    /// [Example](crate::examples#making-masks)
+    ///
     /// # The caller owes ([terms](crate::definitions))
     ///
     /// - *can*: `I.can_next masks`
@@ -34,6 +36,8 @@ impl Mask {
 
     /// The values of the masks that an iterator yields, one mask after another, as by `concat`. The
     /// masks are taken by value.
+    ///
+    /// [`from_masks`](Self::from_masks) is the same where missing memory ends the process, and has an example.
     ///
     /// # The caller owes ([terms](crate::definitions))
     ///

@@ -10,6 +10,8 @@ use crate::proved::vortex_mask::mask::{AllOr, Mask, MaskError, MaskValues};
 impl Mask {
     /// The values of a buffer. An empty one gives `AllFalse(0)`.
     ///
+    /// [`from_buffer`](Self::from_buffer) is the same where missing memory ends the process, and has an example.
+    ///
     /// # Proved ([terms](crate::definitions))
     ///
     /// - *list*: `IfOk result (λ m. truth m ≡ values buffer)`
@@ -31,6 +33,8 @@ impl Mask {
     /// The values of a buffer, whose true indices these ranges hold. Where some values are true and
     /// some are not the mask caches its runs: ranges that touch are merged, in the memory
     /// that came with them. An empty buffer gives `AllFalse(0)`.
+    ///
+    /// [`from_buffer_with_slices`](Self::from_buffer_with_slices) is the same where missing memory ends the process, and has an example.
     ///
     /// # Panics unless ([terms](crate::definitions))
     ///
@@ -65,6 +69,8 @@ impl Mask {
 
     /// The values that an iterator yields, in their order. No values give `AllFalse(0)`.
     ///
+    /// [`from_bools`](Self::from_bools) is the same where missing memory ends the process, and has an example.
+    ///
     /// # The caller owes ([terms](crate::definitions))
     ///
     /// - *can*: `I.can_next bools`
@@ -91,6 +97,8 @@ impl Mask {
     /// What a test answers of each row, in their order: value `i` is its answer of row `i`. No rows give `AllFalse(0)`.
     ///
     /// The filter of a column by a test of its rows, such as `|row| *row > low`.
+    ///
+    /// [`from_rows`](Self::from_rows) is the same where missing memory ends the process, and has an example.
     ///
     /// # The caller owes ([terms](crate::definitions))
     ///
@@ -122,6 +130,8 @@ impl Mask {
 impl Mask {
     /// `All`, `None` or the packed values, by variant.
     ///
+    /// [Example](crate::examples#asking-a-mask)
+    ///
     /// # Proved ([terms](crate::definitions))
     ///
     /// - *held*: `all_or_copied result ≡ held_buffer self.now`
@@ -136,6 +146,8 @@ impl Mask {
     }
 
     /// A buffer of the values.
+    ///
+    /// [`to_bit_buffer`](Self::to_bit_buffer) is the same where missing memory ends the process, and has an example.
     ///
     /// # Proved ([terms](crate::definitions))
     ///
@@ -156,6 +168,8 @@ impl Mask {
     }
 
     /// A buffer of the values, of a mask that is taken by value.
+    ///
+    /// [`into_bit_buffer`](Self::into_bit_buffer) is the same where missing memory ends the process, and has an example.
     ///
     /// # Proved ([terms](crate::definitions))
     ///

@@ -48,6 +48,8 @@ impl Mask {
     /// The share of true values: 1/1 of `AllTrue`, 0/1 of `AllFalse`, also where they are empty, and
     /// else the true count over the length.
     ///
+    /// [`density`](Self::density) has an example.
+    ///
     /// # Proved ([terms](crate::definitions))
     ///
     /// - *by_variant*: `result ≡ share_by_variant self.now`
@@ -70,6 +72,8 @@ impl Mask {
 
 impl MaskValues {
     /// The share of true values: the true count over the length.
+    ///
+    /// [`density`](Self::density) is the same.
     ///
     /// # Proved ([terms](crate::definitions))
     ///

@@ -16,6 +16,8 @@ impl Mask {
     /// `UnsortedIndices` for the first place below the one before it, else `RepeatedIndex` for the
     /// first that equals it, else `IndexOutOfBounds` for the first that is not below `len`.
     ///
+    /// [`from_indices`](Self::from_indices) is the same where missing memory ends the process, and has an example.
+    ///
     /// # The caller owes ([terms](crate::definitions))
     ///
     /// - *can*: `I.can_next indices`
@@ -112,6 +114,8 @@ impl Mask {
     /// The values are made first, so `Memory` may come before the other refusal:
     /// `IndexOutOfBounds` for the first index, as the iterator has them, that is not below `len`.
     ///
+    /// [`from_excluded_indices`](Self::from_excluded_indices) is the same where missing memory ends the process, and has an example.
+    ///
     /// # The caller owes ([terms](crate::definitions))
     ///
     /// - *can*: `I.can_next indices`
@@ -179,6 +183,8 @@ impl Mask {
     /// An index that only one of them yields is dropped, past `len` too. The iterators are read to
     /// their ends first, so `Memory` may come before the other refusal: `IndexOutOfBounds` for the
     /// first index in common that is not below `len`.
+    ///
+    /// [`from_intersection_indices`](Self::from_intersection_indices) is the same where missing memory ends the process, and has an example.
     ///
     /// # Panics unless ([terms](crate::definitions))
     ///

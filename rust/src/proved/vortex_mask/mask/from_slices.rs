@@ -16,6 +16,8 @@ impl Mask {
     /// empty or passes the length, else `UnsortedRanges` or `OverlappingRanges` of the first that
     /// does not start after the start of the one before it, or starts below its end.
     ///
+    /// [`from_slices`](Self::from_slices) is the same where missing memory ends the process, and has an example.
+    ///
     /// # Proved ([terms](crate::definitions))
     ///
     /// - *len*: `IfOk result (λ m. length (truth m) ≡ len)`

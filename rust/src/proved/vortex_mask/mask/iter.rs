@@ -50,6 +50,8 @@ impl ExactSizeIterator for MaskBoolIter<'_> {
 impl Mask {
     /// The values in their order.
     ///
+    /// [Example](crate::examples#asking-a-mask)
+    ///
     /// # Proved ([terms](crate::definitions))
     ///
     /// - *list*: `values_left result ≡ truth self.now`
@@ -94,6 +96,8 @@ impl Iterator for MaskSetIndices<'_> {
 impl Mask {
     /// The indices of the true values, ascending, of a mask that is only lent. No list is made or cached.
     ///
+    /// [Example](crate::examples#going-through-a-mask)
+    ///
     /// # Proved ([terms](crate::definitions))
     ///
     /// - *indices*: `indices_left result ≡ positions (truth self.now)`
@@ -133,6 +137,8 @@ impl Iterator for MaskSetSlices<'_> {
 
 impl Mask {
     /// The runs of the true values, ascending, of a mask that is only lent. No list is made or cached.
+    ///
+    /// [Example](crate::examples#going-through-a-mask)
     ///
     /// # Proved ([terms](crate::definitions))
     ///

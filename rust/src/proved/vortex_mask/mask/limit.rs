@@ -10,6 +10,8 @@ use crate::proved::vortex_mask::mask::{Mask, MaskError};
 impl Mask {
     /// The first `k` true values, and false ones from there on. A mask that has no more true ones stays as it is.
     ///
+    /// [`limit`](Self::limit) is the same where missing memory ends the process, and has an example.
+    ///
     /// # Proved ([terms](crate::definitions))
     ///
     /// - *list*: `IfOk result (λ m. truth m ≡ limited (truth self) k)`
@@ -35,6 +37,8 @@ impl Mask {
 
     /// The first `k` true values of a mask that is only lent, and false ones from there on. The
     /// result is a clone of a mask that has no more true ones.
+    ///
+    /// [`to_limited`](Self::to_limited) is the same where missing memory ends the process, and has an example.
     ///
     /// # Proved ([terms](crate::definitions))
     ///

@@ -8,6 +8,8 @@ use crate::proved::vortex_mask::mask::{Mask, MaskError};
 impl Mask {
     /// The values `start..end`. The whole mask has its cached lists, and any other part has none.
     ///
+    /// [`slice`](Self::slice) is the same where missing memory ends the process, and has an example.
+    ///
     /// # Panics unless ([terms](crate::definitions))
     ///
     /// - *ordered*: `start ≤ end`
@@ -57,6 +59,8 @@ impl Mask {
 impl Mask {
     /// A mask for each group of `size` values, as for the row groups of a file or the batches of a
     /// scan. The last group may have fewer values, and no values give no group.
+    ///
+    /// [`groups`](Self::groups) is the same where missing memory ends the process, and has an example.
     ///
     /// # Panics unless ([terms](crate::definitions))
     ///

@@ -161,6 +161,8 @@ impl MaskValues {
 
     /// The same values with the same lists cached.
     ///
+    /// [`clone`](Self::clone) is the same where missing memory ends the process.
+    ///
     /// # Proved ([terms](crate::definitions))
     ///
     /// - *same*: `IfOk result (λ v. v ≡ self.now)`
