@@ -131,7 +131,7 @@ mod race {
         own.push(value);
         let own = Box::into_raw(own.into_boxed_slice()).cast::<T>();
         let (null, acquire) = (ptr::null_mut(), Ordering::Acquire);
-        let kept = match once.set.compare_exchange(null, own, Ordering::Release, acquire) {
+        let kept = match once.set.compare_exchange(null, own, Ordering::AcqRel, acquire) {
             Ok(_) => own,
             Err(first) => {
                 // SAFETY: it was made above, and nobody else has seen it.
