@@ -60,6 +60,7 @@ use std::sync::OnceLock as Once;
 /// What was set first: this, or what stood there before.
 #[cfg(feature = "std")]
 #[inline]
+#[allow(clippy::unnecessary_wraps, reason = "without `std` it takes memory")]
 fn set_or_get<T>(once: &Once<T>, value: T) -> Result<&T, AllocError> {
     Ok(once.get_or_init(|| value))
 }
@@ -92,10 +93,13 @@ mod race {
 
         #[inline]
         pub(super) fn get(&self) -> Option<&T> {
+            if self.given.is_some() {
+                return self.given.as_ref();
+            }
             let set = self.set.load(Ordering::Acquire);
             // SAFETY: where it isn't null, it was released behind the writing of its value, which changes and drops only
             // with `self`.
-            self.given.as_ref().or_else(|| unsafe { set.as_ref() })
+            unsafe { set.as_ref() }
         }
     }
 
@@ -192,17 +196,17 @@ mod tests {
     #[test]
     fn the_first_value_is_everybodys() {
         for _ in 0..200 {
-            let (one, once) = (Arc::new(()), race::Once::new());
+            let (counted, once) = (Arc::new(()), race::Once::new());
             let got = at_once(|number| {
-                let value = (number, one.clone());
+                let value = (number, counted.clone());
                 let kept = race::set_or_get(&once, value).unwrap();
                 assert_eq!(once.get().unwrap().0, kept.0);
                 kept.0
             });
             assert!(got.iter().all(|it| *it == got[0]));
-            assert_eq!(Arc::strong_count(&one), 2);
+            assert_eq!(Arc::strong_count(&counted), 2);
             drop(once);
-            assert_eq!(Arc::strong_count(&one), 1);
+            assert_eq!(Arc::strong_count(&counted), 1);
         }
         let given = race::Once::from(vec![7]);
         assert_eq!(given.get(), Some(&vec![7]));

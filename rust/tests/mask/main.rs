@@ -7,6 +7,7 @@ mod hashes;
 mod lists;
 mod makers;
 mod operators;
+mod plain;
 mod threads;
 mod walks;
 
