@@ -6,15 +6,17 @@ use alloc::vec::Vec;
 mod change;
 mod make;
 mod pack;
+mod read;
 
-/// A list of truth values in bytes of its own, from bit 0 on: what a call on a [`Bitmap`] makes.
+/// A list of truth values in bytes of its own, from bit 0 on: what a call on a [`Bitmap`] makes. It answers what a
+/// [`Bitmap`] answers, and `&rows` stands wherever a call takes one.
 ///
 /// ```
 /// use row_mask::BitmapBuf;
 ///
 /// let mut rows: BitmapBuf = [true, false, true].into_iter().collect();
-/// assert_eq!(rows.as_bitmap().select(1), Some(2));
-/// rows.or_with(BitmapBuf::from_indices(3, &[1, 0])?.as_bitmap())?;
+/// assert_eq!(rows.select(1), Some(2));
+/// rows.or_with(&BitmapBuf::from_indices(3, &[1, 0])?)?;
 /// rows.fill_range(2.., false)?;
 /// assert_eq!(rows, BitmapBuf::from_ranges(3, [0..2])?);
 /// # Ok::<(), row_mask::Error>(())

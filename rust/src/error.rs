@@ -1,6 +1,22 @@
+use crate::{AllocError, MaskError};
 use core::fmt;
 
-/// Why a call was refused. Nothing was done.
+/// Why a call was refused. Nothing was done. A [`MaskError`] becomes one by `?`, and so does an [`AllocError`].
+///
+/// ```
+/// use row_mask::{BitmapBuf, Error, Mask};
+///
+/// fn both(len: usize, a: &[usize], b: &[usize]) -> Result<Mask, Error> {
+///     let a = Mask::try_from_indices(len, a.iter().copied())?; // a `MaskError`
+///     let b = BitmapBuf::from_indices(len, b)?; // an `Error`
+///     Ok(a & &Mask::from(b))
+/// }
+///
+/// assert_eq!(both(4, &[0, 2], &[3, 2])?.to_string(), "0010");
+/// assert_eq!(both(4, &[0, 7], &[2]), Err(Error::IndexOutOfBounds { index: 7, len: 4 }));
+/// assert_eq!(both(4, &[0, 0], &[2]), Err(Error::RepeatedIndex { at: 1 }));
+/// # Ok::<(), row_mask::Error>(())
+/// ```
 #[derive(Debug, Clone, Copy, PartialEq, Eq)]
 #[non_exhaustive]
 #[allow(missing_docs, reason = "the sentence of each says what its numbers are")]
@@ -29,10 +45,21 @@ pub enum Error {
     UnsortedOffsets { at: usize },
     /// The last `offset` is past the end of the bytes, of which there are `size`.
     OffsetOutOfBounds { offset: usize, size: usize },
-    /// There is no memory for what is to be made, which takes so many `bytes`.
+    /// There is no memory for what is to be made, which takes so many `bytes`. These are 0 where how many isn't known, as
+    /// of masks.
     OutOfMemory { bytes: usize },
     /// What is to be written has no room: there is `room` for so many bytes or items, and so many are `needed`.
     RoomTooSmall { room: usize, needed: usize },
+    /// Of a mask: the index at place `at` of the list equals the one before it.
+    RepeatedIndex { at: usize },
+    /// Of a mask: the range at place `at` of the list is empty, or ends past the length.
+    BadRangeAt { at: usize },
+    /// Of a mask: the range at place `at` of the list does not start above the start of the one before it.
+    UnsortedRanges { at: usize },
+    /// Of a mask: the range at place `at` of the list starts below the end of the one before it.
+    OverlappingRanges { at: usize },
+    /// Of masks: the sum of their lengths is above `usize::MAX`.
+    LengthOverflow,
 }
 
 impl fmt::Display for Error {
@@ -74,17 +101,52 @@ impl fmt::Display for Error {
             Error::OffsetOutOfBounds { offset, size } => {
                 write!(f, "offset {offset} is past the end of {size} bytes")
             }
+            Error::OutOfMemory { bytes: 0 } => f.write_str("out of memory"),
             Error::OutOfMemory { bytes } => {
                 write!(f, "there is no memory for {bytes} bytes")
             }
             Error::RoomTooSmall { room, needed } => {
                 write!(f, "there is room for {room}, and {needed} are to be written")
             }
+            Error::RepeatedIndex { at } => {
+                write!(f, "index number {at} repeats the one before it")
+            }
+            Error::BadRangeAt { at } => {
+                write!(f, "range number {at} is empty, or passes the length")
+            }
+            Error::UnsortedRanges { at } => {
+                write!(f, "range number {at} does not start after the one before it")
+            }
+            Error::OverlappingRanges { at } => {
+                write!(f, "range number {at} overlaps the one before it")
+            }
+            Error::LengthOverflow => f.write_str("the sum of the lengths does not fit"),
         }
     }
 }
 
 impl core::error::Error for Error {}
+
+impl From<MaskError> for Error {
+    fn from(error: MaskError) -> Error {
+        match error {
+            MaskError::Memory(error) => error.into(),
+            MaskError::UnsortedIndices { at } => Error::UnsortedIndices { at },
+            MaskError::RepeatedIndex { at } => Error::RepeatedIndex { at },
+            MaskError::IndexOutOfBounds { index, len } => Error::IndexOutOfBounds { index, len },
+            MaskError::BadRange { at } => Error::BadRangeAt { at },
+            MaskError::UnsortedRanges { at } => Error::UnsortedRanges { at },
+            MaskError::OverlappingRanges { at } => Error::OverlappingRanges { at },
+            MaskError::LengthOverflow => Error::LengthOverflow,
+        }
+    }
+}
+
+impl From<AllocError> for Error {
+    fn from(_: AllocError) -> Error {
+        Error::OutOfMemory { bytes: 0 }
+    }
+}
 
 impl Error {
     /// This refusal, unless a condition is met.

@@ -11,6 +11,7 @@ mod text;
 pub(crate) mod unchecked;
 
 pub use alloc::sync::Arc;
+pub(crate) use bytes::room_to_share;
 pub use bytes::{Bytes, BytesMut};
 pub(crate) use list::zeros;
 pub use list::{Collect, CowSlice, List, ToList, filled};

@@ -11,6 +11,7 @@ mod bitmap;
 mod buf;
 mod buffer;
 pub mod conditions;
+mod convert;
 mod error;
 #[doc(hidden)]
 pub mod kit;

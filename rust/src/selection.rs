@@ -4,7 +4,6 @@ use crate::bitmap::read::INDICES_OF_A_BLOCK;
 use crate::bitmap::room::{
     append_to, as_cells, as_items, as_places, first_of, list_of, made, reserve,
 };
-use crate::memory::granted;
 use crate::proved::mask_bits::SetSlices;
 use crate::proved::mask_bits::room::Lent;
 use crate::proved::mask_bits::word_rows::push_rows_one_by_one;
@@ -78,20 +77,33 @@ impl Kept {
 }
 
 impl Selection {
-    /// Reads a bitmap.
+    /// Reads a [`Bitmap`], or behind a reference a [`BitmapBuf`], a [`BitBuffer`](crate::BitBuffer) or a
+    /// [`Mask`](crate::Mask).
+    ///
+    /// ```
+    /// use row_mask::{Mask, Selection};
+    ///
+    /// let mask = Mask::from_indices(4, [1, 3]);
+    /// assert_eq!(Selection::new(&mask).choose(&[10, 11, 12, 13])?, [11, 13]);
+    /// # Ok::<(), row_mask::Error>(())
+    /// ```
     #[must_use]
-    pub fn new(bitmap: Bitmap<'_>) -> Selection {
-        let made = Selection::try_new(bitmap);
-        let bytes = if let Err(Error::OutOfMemory { bytes }) = made { bytes } else { 0 };
-        granted(made, bytes.saturating_mul(8))
+    pub fn new(rows: impl Into<Selection>) -> Selection {
+        rows.into()
     }
 
-    /// As [`new`](Self::new), of a bitmap that may have any length. It takes no memory but what a [`Selection`] keeps.
+    /// As [`new`](Self::new), of a bitmap that may have any length. It takes no memory but what a [`Selection`] keeps. Of a
+    /// mask, pass `&mask.try_to_bit_buffer()?`.
     ///
     /// # Errors
     /// [`Error::OutOfMemory`].
-    pub fn try_new(bitmap: Bitmap<'_>) -> Result<Selection, Error> {
-        let (bitmap, count) = (made(|out| bitmap.copy_into(out))?, bitmap.count());
+    pub fn try_new<'a>(bitmap: impl Into<Bitmap<'a>>) -> Result<Selection, Error> {
+        Selection::of(made(|out| bitmap.into().copy_into(out))?)
+    }
+
+    // Reads a bitmap, and keeps it.
+    pub(crate) fn of(bitmap: BitmapBuf) -> Result<Selection, Error> {
+        let count = bitmap.count();
         let kept = Kept::of(bitmap.as_bitmap(), count)?;
         Ok(Selection { bitmap, count, kept })
     }
@@ -128,7 +140,8 @@ impl Selection {
     ///
     /// # Errors
     /// [`Error::RowsDiffer`] where the bitmap has not [`len`](Self::len) values, and [`Error::OutOfMemory`].
-    pub fn choose_bits(&self, bits: Bitmap<'_>) -> Result<BitmapBuf, Error> {
+    pub fn choose_bits<'b>(&self, bits: impl Into<Bitmap<'b>>) -> Result<BitmapBuf, Error> {
+        let bits = bits.into();
         made(|out| self.choose_bits_into(bits, out))
     }
 
@@ -136,11 +149,12 @@ impl Selection {
     ///
     /// # Errors
     /// [`Error::RowsDiffer`] where the bitmap has not [`len`](Self::len) values, and the refusals of [`Room`].
-    pub fn choose_bits_into(
+    pub fn choose_bits_into<'b>(
         &self,
-        bits: Bitmap<'_>,
+        bits: impl Into<Bitmap<'b>>,
         out: &mut (impl Room + ?Sized),
     ) -> Result<(), Error> {
+        let bits = bits.into();
         self.has_one_for_each(bits.len())?;
         let bitmap = self.as_bitmap();
         // SAFETY: the loop writes each byte, and reads none before.
@@ -162,7 +176,7 @@ impl Selection {
     ///
     /// # Errors
     /// [`Error::RowsDiffer`] where the column has not [`len`](Self::len) rows, and [`Error::OutOfMemory`].
-    #[doc(alias("filter", "take"))]
+    #[doc(alias = "filter")]
     pub fn choose<T: Row>(&self, rows: &[T]) -> Result<Vec<T>, Error> {
         self.has_one_for_each(rows.len())?;
         // SAFETY: there is a row for each value, and a place for each true one, which is written.

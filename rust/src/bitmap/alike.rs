@@ -2,7 +2,7 @@
 
 use super::room::made;
 use crate::memory::granted;
-use crate::{Bitmap, BitmapBuf, Selection, Values};
+use crate::{Bitmap, BitmapBuf, Values};
 use alloc::string::String;
 use core::fmt;
 use core::ops::Not;
@@ -51,18 +51,6 @@ fn describe(name: &str, bitmap: Bitmap<'_>, f: &mut fmt::Formatter<'_>) -> fmt::
         .finish()
 }
 
-impl PartialEq<BitmapBuf> for Bitmap<'_> {
-    fn eq(&self, other: &BitmapBuf) -> bool {
-        *self == other.as_bitmap()
-    }
-}
-
-impl PartialEq<Bitmap<'_>> for BitmapBuf {
-    fn eq(&self, other: &Bitmap<'_>) -> bool {
-        self.as_bitmap() == *other
-    }
-}
-
 impl<'a> IntoIterator for Bitmap<'a> {
     type Item = bool;
     type IntoIter = Values<'a>;
@@ -106,24 +94,6 @@ impl Not for BitmapBuf {
     fn not(mut self) -> BitmapBuf {
         self.negate();
         self
-    }
-}
-
-impl<'a> From<&'a BitmapBuf> for Bitmap<'a> {
-    fn from(it: &'a BitmapBuf) -> Bitmap<'a> {
-        it.as_bitmap()
-    }
-}
-
-impl From<Bitmap<'_>> for BitmapBuf {
-    fn from(it: Bitmap<'_>) -> BitmapBuf {
-        it.to_buf()
-    }
-}
-
-impl From<Bitmap<'_>> for Selection {
-    fn from(it: Bitmap<'_>) -> Selection {
-        Selection::new(it)
     }
 }
 

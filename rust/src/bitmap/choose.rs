@@ -33,7 +33,8 @@ impl Bitmap<'_> {
     ///
     /// # Errors
     /// [`Error::RowsDiffer`] where the other bitmap has not one value for each value, and [`Error::OutOfMemory`].
-    pub fn choose_bits(self, bits: Bitmap<'_>) -> Result<BitmapBuf, Error> {
+    pub fn choose_bits<'b>(self, bits: impl Into<Bitmap<'b>>) -> Result<BitmapBuf, Error> {
+        let bits = bits.into();
         made(|out| self.choose_bits_into(bits, out))
     }
 
@@ -41,11 +42,12 @@ impl Bitmap<'_> {
     ///
     /// # Errors
     /// [`Error::RowsDiffer`] where the other bitmap has not one value for each value, and the refusals of [`Room`].
-    pub fn choose_bits_into(
+    pub fn choose_bits_into<'b>(
         self,
-        bits: Bitmap<'_>,
+        bits: impl Into<Bitmap<'b>>,
         out: &mut (impl Room + ?Sized),
     ) -> Result<usize, Error> {
+        let bits = bits.into();
         self.has_one_for_each(bits.len)?;
         let count = self.count();
         // SAFETY: the loop writes each byte, and reads none before.

@@ -10,7 +10,8 @@ impl Bitmap<'_> {
     ///
     /// # Errors
     /// [`Error::LengthsDiffer`], and [`Error::OutOfMemory`].
-    pub fn and(self, other: Bitmap<'_>) -> Result<BitmapBuf, Error> {
+    pub fn and<'b>(self, other: impl Into<Bitmap<'b>>) -> Result<BitmapBuf, Error> {
+        let other = other.into();
         made(|out| self.and_into(other, out))
     }
 
@@ -18,7 +19,12 @@ impl Bitmap<'_> {
     ///
     /// # Errors
     /// [`Error::LengthsDiffer`], and the refusals of [`Room`].
-    pub fn and_into(self, other: Bitmap<'_>, out: &mut (impl Room + ?Sized)) -> Result<(), Error> {
+    pub fn and_into<'b>(
+        self,
+        other: impl Into<Bitmap<'b>>,
+        out: &mut (impl Room + ?Sized),
+    ) -> Result<(), Error> {
+        let other = other.into();
         self.of_length_of(other)?;
         // SAFETY: the loop writes each byte, and reads none before.
         unsafe {
@@ -39,7 +45,8 @@ impl Bitmap<'_> {
     ///
     /// # Errors
     /// [`Error::LengthsDiffer`], and [`Error::OutOfMemory`].
-    pub fn or(self, other: Bitmap<'_>) -> Result<BitmapBuf, Error> {
+    pub fn or<'b>(self, other: impl Into<Bitmap<'b>>) -> Result<BitmapBuf, Error> {
+        let other = other.into();
         made(|out| self.or_into(other, out))
     }
 
@@ -47,7 +54,12 @@ impl Bitmap<'_> {
     ///
     /// # Errors
     /// [`Error::LengthsDiffer`], and the refusals of [`Room`].
-    pub fn or_into(self, other: Bitmap<'_>, out: &mut (impl Room + ?Sized)) -> Result<(), Error> {
+    pub fn or_into<'b>(
+        self,
+        other: impl Into<Bitmap<'b>>,
+        out: &mut (impl Room + ?Sized),
+    ) -> Result<(), Error> {
+        let other = other.into();
         self.of_length_of(other)?;
         // SAFETY: the loop writes each byte, and reads none before.
         unsafe {
@@ -68,7 +80,8 @@ impl Bitmap<'_> {
     ///
     /// # Errors
     /// [`Error::LengthsDiffer`], and [`Error::OutOfMemory`].
-    pub fn and_not(self, other: Bitmap<'_>) -> Result<BitmapBuf, Error> {
+    pub fn and_not<'b>(self, other: impl Into<Bitmap<'b>>) -> Result<BitmapBuf, Error> {
+        let other = other.into();
         made(|out| self.and_not_into(other, out))
     }
 
@@ -76,11 +89,12 @@ impl Bitmap<'_> {
     ///
     /// # Errors
     /// [`Error::LengthsDiffer`], and the refusals of [`Room`].
-    pub fn and_not_into(
+    pub fn and_not_into<'b>(
         self,
-        other: Bitmap<'_>,
+        other: impl Into<Bitmap<'b>>,
         out: &mut (impl Room + ?Sized),
     ) -> Result<(), Error> {
+        let other = other.into();
         self.of_length_of(other)?;
         // SAFETY: the loop writes each byte, and reads none before.
         unsafe {
@@ -101,7 +115,8 @@ impl Bitmap<'_> {
     ///
     /// # Errors
     /// [`Error::LengthsDiffer`], and [`Error::OutOfMemory`].
-    pub fn xor(self, other: Bitmap<'_>) -> Result<BitmapBuf, Error> {
+    pub fn xor<'b>(self, other: impl Into<Bitmap<'b>>) -> Result<BitmapBuf, Error> {
+        let other = other.into();
         made(|out| self.xor_into(other, out))
     }
 
@@ -109,7 +124,12 @@ impl Bitmap<'_> {
     ///
     /// # Errors
     /// [`Error::LengthsDiffer`], and the refusals of [`Room`].
-    pub fn xor_into(self, other: Bitmap<'_>, out: &mut (impl Room + ?Sized)) -> Result<(), Error> {
+    pub fn xor_into<'b>(
+        self,
+        other: impl Into<Bitmap<'b>>,
+        out: &mut (impl Room + ?Sized),
+    ) -> Result<(), Error> {
+        let other = other.into();
         self.of_length_of(other)?;
         // SAFETY: the loop writes each byte, and reads none before.
         unsafe {
@@ -132,7 +152,8 @@ impl BitmapBuf {
     ///
     /// # Errors
     /// [`Error::LengthsDiffer`].
-    pub fn and_with(&mut self, other: Bitmap<'_>) -> Result<(), Error> {
+    pub fn and_with<'b>(&mut self, other: impl Into<Bitmap<'b>>) -> Result<(), Error> {
+        let other = other.into();
         self.as_bitmap().of_length_of(other)?;
         mask_c::row_mask_and_in_place(&mut self.bytes, other.bytes, other.offset, self.len);
         Ok(())
@@ -142,7 +163,8 @@ impl BitmapBuf {
     ///
     /// # Errors
     /// [`Error::LengthsDiffer`].
-    pub fn or_with(&mut self, other: Bitmap<'_>) -> Result<(), Error> {
+    pub fn or_with<'b>(&mut self, other: impl Into<Bitmap<'b>>) -> Result<(), Error> {
+        let other = other.into();
         self.as_bitmap().of_length_of(other)?;
         mask_c::row_mask_or_in_place(&mut self.bytes, other.bytes, other.offset, self.len);
         Ok(())
@@ -152,7 +174,8 @@ impl BitmapBuf {
     ///
     /// # Errors
     /// [`Error::LengthsDiffer`].
-    pub fn and_not_with(&mut self, other: Bitmap<'_>) -> Result<(), Error> {
+    pub fn and_not_with<'b>(&mut self, other: impl Into<Bitmap<'b>>) -> Result<(), Error> {
+        let other = other.into();
         self.as_bitmap().of_length_of(other)?;
         mask_c::row_mask_and_not_in_place(&mut self.bytes, other.bytes, other.offset, self.len);
         Ok(())
@@ -162,7 +185,8 @@ impl BitmapBuf {
     ///
     /// # Errors
     /// [`Error::LengthsDiffer`].
-    pub fn xor_with(&mut self, other: Bitmap<'_>) -> Result<(), Error> {
+    pub fn xor_with<'b>(&mut self, other: impl Into<Bitmap<'b>>) -> Result<(), Error> {
+        let other = other.into();
         self.as_bitmap().of_length_of(other)?;
         mask_c::row_mask_xor_in_place(&mut self.bytes, other.bytes, other.offset, self.len);
         Ok(())
@@ -211,7 +235,8 @@ impl Bitmap<'_> {
     ///
     /// # Errors
     /// [`Error::LengthsDiffer`].
-    pub fn and_count(self, other: Bitmap<'_>) -> Result<usize, Error> {
+    pub fn and_count<'b>(self, other: impl Into<Bitmap<'b>>) -> Result<usize, Error> {
+        let other = other.into();
         self.of_length_of(other)?;
         let (a, b) = (self, other);
         Ok(mask_c::row_mask_and_count(a.bytes(), a.offset(), b.bytes(), b.offset(), a.len()))
@@ -221,7 +246,8 @@ impl Bitmap<'_> {
     ///
     /// # Errors
     /// [`Error::LengthsDiffer`].
-    pub fn intersects(self, other: Bitmap<'_>) -> Result<bool, Error> {
+    pub fn intersects<'b>(self, other: impl Into<Bitmap<'b>>) -> Result<bool, Error> {
+        let other = other.into();
         self.of_length_of(other)?;
         let (a, b) = (self, other);
         Ok(mask_c::row_mask_intersects(a.bytes(), a.offset(), b.bytes(), b.offset(), a.len()))
@@ -231,7 +257,8 @@ impl Bitmap<'_> {
     ///
     /// # Errors
     /// [`Error::LengthsDiffer`].
-    pub fn is_subset(self, other: Bitmap<'_>) -> Result<bool, Error> {
+    pub fn is_subset<'b>(self, other: impl Into<Bitmap<'b>>) -> Result<bool, Error> {
+        let other = other.into();
         self.of_length_of(other)?;
         let (a, b) = (self, other);
         Ok(mask_c::row_mask_is_subset(a.bytes(), a.offset(), b.bytes(), b.offset(), a.len()))
@@ -244,7 +271,8 @@ impl Bitmap<'_> {
     ///
     /// # Errors
     /// [`Error::RanksDiffer`] where `ranks` has not one value for each true value, and [`Error::OutOfMemory`].
-    pub fn intersect_by_rank(self, ranks: Bitmap<'_>) -> Result<BitmapBuf, Error> {
+    pub fn intersect_by_rank<'b>(self, ranks: impl Into<Bitmap<'b>>) -> Result<BitmapBuf, Error> {
+        let ranks = ranks.into();
         made(|out| self.intersect_by_rank_into(ranks, out))
     }
 
@@ -252,11 +280,12 @@ impl Bitmap<'_> {
     ///
     /// # Errors
     /// [`Error::RanksDiffer`] where `ranks` has not one value for each true value, and the refusals of [`Room`].
-    pub fn intersect_by_rank_into(
+    pub fn intersect_by_rank_into<'b>(
         self,
-        ranks: Bitmap<'_>,
+        ranks: impl Into<Bitmap<'b>>,
         out: &mut (impl Room + ?Sized),
     ) -> Result<(), Error> {
+        let ranks = ranks.into();
         let count = self.count();
         Error::RanksDiffer { ranks: ranks.len, count }.unless(ranks.len == count)?;
         // SAFETY: the loop writes each byte, and reads none before.

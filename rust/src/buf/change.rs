@@ -38,6 +38,18 @@ impl BitmapBuf {
         Ok(())
     }
 
+    /// Makes value `i` false where it is true, and true where it is false.
+    ///
+    /// # Errors
+    /// [`Error::IndexOutOfBounds`] where there is no such value.
+    #[doc(alias = "flip")]
+    #[inline]
+    pub fn toggle(&mut self, i: usize) -> Result<(), Error> {
+        Error::IndexOutOfBounds { index: i, len: self.len }.unless(i < self.len)?;
+        self.bytes[i / 8] ^= 1 << (i % 8);
+        Ok(())
+    }
+
     /// Leaves those true values true of whose indices `is_kept` says so, in place. It is asked of true values alone, in
     /// their order: a predicate over the rows that others left.
     ///
@@ -91,8 +103,34 @@ impl BitmapBuf {
         self.len += 1;
     }
 
+    /// Adds a value `n` times behind the last one.
+    pub fn append_n(&mut self, value: bool, n: usize) {
+        let (start, end) = (self.len, self.len.saturating_add(n));
+        self.reserve(n);
+        self.bytes.resize(mask_c::row_mask_room(end), 0);
+        self.len = end;
+        if value {
+            mask_c::row_mask_fill_range(&mut self.bytes, start, end, true);
+        }
+    }
+
+    /// Has `len` values: it forgets those from there on, or adds values that are all `value` behind the last one.
+    ///
+    /// ```
+    /// let mut rows = row_mask::BitmapBuf::all_false(2);
+    /// rows.resize(4, true);
+    /// assert_eq!(rows.to_string(), "0011");
+    /// rows.resize(3, true);
+    /// assert_eq!(rows.to_string(), "001");
+    /// ```
+    pub fn resize(&mut self, len: usize, value: bool) {
+        self.truncate(len);
+        self.append_n(value, len - self.len);
+    }
+
     /// Adds the values of a bitmap behind the last value.
-    pub fn append(&mut self, more: Bitmap<'_>) {
+    pub fn append<'a>(&mut self, more: impl Into<Bitmap<'a>>) {
+        let more = more.into();
         let len = self.len.saturating_add(more.len());
         self.bytes.resize(mask_c::row_mask_room(len), 0);
         mask_c::row_mask_append(&mut self.bytes, self.len, more.bytes(), more.offset(), more.len());

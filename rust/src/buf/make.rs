@@ -244,14 +244,19 @@ impl BitmapBuf {
         if offset > 0 {
             return made(|out| bitmap.copy_into(out));
         }
+        Ok(BitmapBuf::of_bytes(bytes, len))
+    }
+
+    // The first `len` values of bytes that have as many.
+    pub(crate) fn of_bytes(bytes: Vec<u8>, len: usize) -> BitmapBuf {
         let mut made = BitmapBuf { len: bytes.len().saturating_mul(8), bytes };
         made.truncate(len);
-        Ok(made)
+        made
     }
 
     /// The values of bitmaps, one after another.
     #[must_use]
-    pub fn concat<'a>(bitmaps: impl IntoIterator<Item = Bitmap<'a>>) -> BitmapBuf {
+    pub fn concat<'a>(bitmaps: impl IntoIterator<Item: Into<Bitmap<'a>>>) -> BitmapBuf {
         let mut made = BitmapBuf::default();
         bitmaps.into_iter().for_each(|bitmap| made.append(bitmap));
         made
@@ -261,16 +266,17 @@ impl BitmapBuf {
     ///
     /// # Errors
     /// The refusals of [`Room`].
-    pub fn concat_into(
-        bitmaps: &[Bitmap<'_>],
+    pub fn concat_into<'a>(
+        bitmaps: &[impl Into<Bitmap<'a>> + Copy],
         out: &mut (impl Room + ?Sized),
     ) -> Result<(), Error> {
-        let len = bitmaps.iter().fold(0, |len: usize, it| len.saturating_add(it.len()));
+        let bitmaps = || bitmaps.iter().map(|it| (*it).into());
+        let len = bitmaps().fold(0, |len: usize, it| len.saturating_add(it.len()));
         // SAFETY: each byte is filled, and none is read before.
         unsafe {
             out.write(len, |out| {
                 out.fill(0);
-                bitmaps.iter().fold(0, |len, it| {
+                bitmaps().fold(0, |len, it| {
                     mask_c::row_mask_append(out, len, it.bytes(), it.offset(), it.len());
                     len + it.len()
                 });

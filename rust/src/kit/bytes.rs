@@ -247,9 +247,15 @@ impl BytesMut {
 
     // What stands before the first is moved away: a buffer begins at the bytes' own first one.
     #[inline]
-    pub(crate) fn freeze(mut self) -> Result<Bytes, AllocError> {
+    pub(crate) fn freeze(self) -> Result<Bytes, AllocError> {
+        Bytes::from_vec(self.into_vec())
+    }
+
+    // The list of them, from which what stands before the first is moved away.
+    #[inline]
+    pub(crate) fn into_vec(mut self) -> Vec<u8> {
         self.bytes.drain(..self.first);
-        Bytes::from_vec(self.bytes)
+        self.bytes
     }
 }
 

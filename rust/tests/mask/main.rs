@@ -2,6 +2,7 @@
 
 mod answers;
 mod conditions;
+mod family;
 mod faults;
 mod hashes;
 mod lists;

@@ -27,10 +27,10 @@ pub fn makes(seen: &mut Comparisons, random: &mut Generator, list: &[bool], bitm
         let mut changed = bitmap.to_buf();
         change(&mut changed, second).map(|()| changed).unwrap()
     };
-    seen.same_list(&in_place(BitmapBuf::and_with), &both);
-    seen.same_list(&in_place(BitmapBuf::or_with), &either);
-    seen.same_list(&in_place(BitmapBuf::and_not_with), &left);
-    seen.same_list(&in_place(BitmapBuf::xor_with), &differ);
+    seen.same_list(&in_place(|a, b| a.and_with(b)), &both);
+    seen.same_list(&in_place(|a, b| a.or_with(b)), &either);
+    seen.same_list(&in_place(|a, b| a.and_not_with(b)), &left);
+    seen.same_list(&in_place(|a, b| a.xor_with(b)), &differ);
     let mut turned = bitmap.to_buf();
     turned.negate();
     seen.same_list(&turned, &negated);

@@ -2,7 +2,7 @@
 
 use crate::MANY;
 use crate::memory::limit;
-use row_mask::{BitBuffer, BitBufferMut, BitmapBuf, Mask, Selection};
+use row_mask::{BitBuffer, BitBufferMut, Bitmap, BitmapBuf, Mask, Selection};
 use std::hint::black_box;
 use std::os::unix::process::ExitStatusExt;
 use std::process::Command;
@@ -42,6 +42,22 @@ fn call_that_aborts(name: &str) {
             longer.push(true);
             longer.len()
         }
+        "append_n" => {
+            let mut longer = BitmapBuf::all_true(9);
+            longer.append_n(false, usize::MAX);
+            longer.len()
+        }
+        "resize" => {
+            let mut longer = BitmapBuf::all_true(9);
+            longer.resize(usize::MAX, true);
+            longer.len()
+        }
+        "to mask" => {
+            Mask::from(Bitmap::new(&[1; 9], 0, 9).unwrap()).len()
+                + Mask::from(rows).len()
+                + BitmapBuf::from(Mask::new_true(usize::MAX)).len()
+        }
+        "to buffer" => BitBuffer::from(rows).len(),
         "reserve" => {
             let mut longer = BitmapBuf::all_true(9);
             longer.reserve(usize::MAX);
@@ -132,6 +148,10 @@ fn what_aborts_is_what_the_page_says() {
         "append",
         "extend",
         "push",
+        "append_n",
+        "resize",
+        "to mask",
+        "to buffer",
         "reserve",
         "to_indices",
         "selection",

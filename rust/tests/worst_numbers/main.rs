@@ -111,7 +111,8 @@ fn changes_by_the_largest_numbers() {
     let mut rows = BitmapBuf::from_fn(100, |i| i % 3 == 0);
     let before = rows.clone();
     for n in [100, 1 << 32, usize::MAX - 7, usize::MAX] {
-        assert_eq!(rows.set(n, true), Err(Error::IndexOutOfBounds { index: n, len: 100 }));
+        let past = Error::IndexOutOfBounds { index: n, len: 100 };
+        assert_eq!((rows.set(n, true), rows.toggle(n)), (Err(past), Err(past)));
         rows.truncate(n);
         assert_eq!(rows, before);
     }
@@ -129,6 +130,9 @@ fn changes_by_the_largest_numbers() {
     rows.truncate(4);
     rows.push(true);
     assert_eq!((rows.to_string().as_str(), rows.as_bytes()), ("10011", &[0b1_1001][..]));
+    rows.append_n(true, 0);
+    rows.resize(7, true);
+    assert_eq!((rows.to_string().as_str(), rows.as_bytes()), ("1001111", &[0b111_1001][..]));
     rows.truncate(0);
     assert!(rows.is_empty());
     assert!(BitmapBuf::from_rows(&[(); 0], |()| true).is_empty());
