@@ -1,7 +1,9 @@
 //! Calls of buffers under their plain names. Each panics where a condition is broken, as the one does whose name begins with
 //! `try_`, and ends the process where memory is refused.
 
+use crate::BitmapBuf;
 use crate::bitmap::ends_of;
+use crate::convert::to_share;
 use crate::memory::granted;
 use crate::proved::mask_bits::{BitBuffer, BitBufferMut};
 use alloc::vec::Vec;
@@ -53,8 +55,9 @@ impl BitBuffer {
     /// What a test says of each row, in their order.
     #[inline]
     #[must_use]
-    pub fn from_rows<T>(rows: &[T], test: impl Fn(&T) -> bool) -> BitBuffer {
-        granted(BitBuffer::try_from_rows(rows, test), rows.len())
+    pub fn from_rows<T>(rows: &[T], test: impl FnMut(&T) -> bool) -> BitBuffer {
+        let made = to_share(rows.len(), |out| BitmapBuf::from_rows_into(rows, test, out));
+        granted(made, rows.len()).into()
     }
 
     /// The values in a range, without a copy.

@@ -29,8 +29,10 @@ pub use bitmap::{Bitmap, room::Room};
 pub use buf::BitmapBuf;
 pub use error::Error;
 pub use kit::{AllocError, Bytes};
+#[doc(hidden)]
+pub use proved::mask_bits::BitBufferMut;
 pub use proved::mask_bits::{
-    BitBuffer, BitBufferMut, BitChunks, BitIterator, PaddedWords, SetIndices, SetSlices, Words,
+    BitBuffer, BitChunks, BitIterator, PaddedWords, SetIndices, SetSlices, Words,
 };
 pub use proved::vortex_mask::{
     AllOr, Fraction, Mask, MaskBoolIter, MaskError, MaskIter, MaskSetIndices, MaskSetSlices,

@@ -5,6 +5,7 @@ mod answers;
 mod cached;
 mod calls;
 mod makers;
+mod operators;
 mod walks;
 
 use crate::kit::{AllocError, TryClone};

@@ -18,6 +18,13 @@
 ///
 /// # Safety
 /// A value is plain bytes, each of them written: there is no padding between its fields or behind the last one.
+#[diagnostic::on_unimplemented(
+    message = "a bitmap can't choose rows of `{Self}`",
+    label = "`{Self}` isn't known to be plain bytes",
+    note = "rows are numbers, `bool`, `char`, arrays of these, and types of one's own by `unsafe impl Row`",
+    note = "of any `Copy` type, `row_mask::Mask::choose` chooses rows: `Mask::from(bitmap).choose(&rows)`",
+    note = "strings are chosen by `row_mask::Strings`; of other types, collect `bitmap.indices().map(|i| rows[i].clone())`"
+)]
 pub unsafe trait Row: Copy {}
 
 macro_rules! rows {

@@ -122,7 +122,8 @@ impl Selection {
         self.bitmap.is_empty()
     }
 
-    /// How many rows are chosen.
+    /// How many rows are chosen. Of a mask it is called `true_count`.
+    #[doc(alias = "true_count")]
     #[must_use]
     #[inline]
     pub fn count(&self) -> usize {
@@ -136,10 +137,11 @@ impl Selection {
         self.bitmap.as_bitmap()
     }
 
-    /// The chosen values of a bitmap, such as the validity of a column.
+    /// The chosen values of a bitmap, such as the validity of a column. Of a mask it is called `choose_values`.
     ///
     /// # Errors
     /// [`Error::RowsDiffer`] where the bitmap has not [`len`](Self::len) values, and [`Error::OutOfMemory`].
+    #[doc(alias("choose_values", "filter"))]
     pub fn choose_bits<'b>(&self, bits: impl Into<Bitmap<'b>>) -> Result<BitmapBuf, Error> {
         let bits = bits.into();
         made(|out| self.choose_bits_into(bits, out))

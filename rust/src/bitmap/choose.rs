@@ -29,10 +29,11 @@ const OF_A_LONG_RUN: usize = 48;
 impl Bitmap<'_> {
     /// The values of another bitmap at the true values, in their order: the validity of a column that is filtered,
     /// or a predicate of all rows as one of those that are left, which
-    /// [`intersect_by_rank`](Bitmap::intersect_by_rank) takes as ranks.
+    /// [`intersect_by_rank`](Bitmap::intersect_by_rank) takes as ranks. Of a mask it is called `choose_values`.
     ///
     /// # Errors
     /// [`Error::RowsDiffer`] where the other bitmap has not one value for each value, and [`Error::OutOfMemory`].
+    #[doc(alias("choose_values", "filter"))]
     pub fn choose_bits<'b>(self, bits: impl Into<Bitmap<'b>>) -> Result<BitmapBuf, Error> {
         let bits = bits.into();
         made(|out| self.choose_bits_into(bits, out))

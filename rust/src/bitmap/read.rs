@@ -12,7 +12,7 @@ use core::ops::{Range, RangeBounds};
 pub(crate) const INDICES_OF_A_BLOCK: usize = 256;
 
 impl<'a> Bitmap<'a> {
-    /// How many values are true.
+    /// How many values are true. Of a mask it is called `true_count`.
     #[doc(alias("true_count", "count_set_bits", "count_ones"))]
     #[must_use]
     #[inline]
@@ -31,6 +31,7 @@ impl<'a> Bitmap<'a> {
     }
 
     /// Whether some value is true.
+    #[doc(alias("none", "not_any", "all_false"))]
     #[must_use]
     #[inline]
     pub fn any(self) -> bool {
@@ -38,6 +39,7 @@ impl<'a> Bitmap<'a> {
     }
 
     /// Whether no value is false.
+    #[doc(alias = "all_true")]
     #[must_use]
     #[inline]
     pub fn all(self) -> bool {
@@ -81,7 +83,8 @@ impl<'a> Bitmap<'a> {
         Values::new(self)
     }
 
-    /// The indices of the true values, ascending.
+    /// The indices of the true values, ascending. Of a mask, which lends a list of them by `indices`, this iterator is called
+    /// `set_indices`.
     #[doc(alias("set_indices", "iter_ones"))]
     #[must_use]
     #[inline]
@@ -89,8 +92,8 @@ impl<'a> Bitmap<'a> {
         Indices::new(self)
     }
 
-    /// The maximal ranges of true values, ascending.
-    #[doc(alias = "set_slices")]
+    /// The maximal ranges of true values, ascending. Of a mask they are called `slices`, and this iterator `set_slices`.
+    #[doc(alias("slices", "set_slices"))]
     #[must_use]
     #[inline]
     pub fn runs(self) -> Runs<'a> {
@@ -131,7 +134,8 @@ impl<'a> Bitmap<'a> {
         Ok(mask_c::row_mask_count_range(self.bytes(), self.offset(), self.len(), start, end))
     }
 
-    /// For each index how many of the values below it are true, all in one pass.
+    /// For each index how many of the values below it are true, all in one pass. Of a mask it is called
+    /// `valid_counts_for_indices`.
     ///
     /// ```
     /// let rows = row_mask::Bitmap::new(&[0b0_1101], 0, 5)?;
@@ -142,6 +146,7 @@ impl<'a> Bitmap<'a> {
     /// # Errors
     /// [`Error::UnsortedIndices`] where an index is below the one before it, [`Error::IndexOutOfBounds`] where one is
     /// above the length, and [`Error::OutOfMemory`].
+    #[doc(alias("valid_counts_for_indices", "rank"))]
     pub fn counts_below(self, indices: &[usize]) -> Result<Vec<usize>, Error> {
         self.are_ends(indices)?;
         // SAFETY: each place is written.

@@ -22,7 +22,7 @@ impl BitmapBuf {
         self.as_bitmap().slice(range)
     }
 
-    /// How many values are true: [`Bitmap::count`].
+    /// How many values are true: [`Bitmap::count`]. Of a mask it is called `true_count`.
     #[doc(alias("true_count", "count_set_bits", "count_ones"))]
     #[must_use]
     #[inline]
@@ -40,7 +40,7 @@ impl BitmapBuf {
     }
 
     /// Whether some value is true: [`Bitmap::any`].
-    #[doc(alias("none", "not_any"))]
+    #[doc(alias("none", "not_any", "all_false"))]
     #[must_use]
     #[inline]
     pub fn any(&self) -> bool {
@@ -82,7 +82,7 @@ impl BitmapBuf {
         self.as_bitmap().next_run(from)
     }
 
-    /// The indices of the true values, ascending: [`Bitmap::indices`].
+    /// The indices of the true values, ascending: [`Bitmap::indices`]. Of a mask this iterator is called `set_indices`.
     #[doc(alias("set_indices", "iter_ones"))]
     #[must_use]
     #[inline]
@@ -90,7 +90,7 @@ impl BitmapBuf {
         self.as_bitmap().indices()
     }
 
-    /// The maximal ranges of true values, ascending: [`Bitmap::runs`].
+    /// The maximal ranges of true values, ascending: [`Bitmap::runs`]. Of a mask they are called `slices`.
     #[doc(alias("slices", "set_slices"))]
     #[must_use]
     #[inline]
@@ -124,7 +124,8 @@ impl BitmapBuf {
         self.as_bitmap().next_words(from, out)
     }
 
-    /// For each index how many of the values below it are true: [`Bitmap::counts_below`].
+    /// For each index how many of the values below it are true: [`Bitmap::counts_below`]. Of a mask it is called
+    /// `valid_counts_for_indices`.
     ///
     /// # Errors
     /// Those of [`Bitmap::counts_below`].
@@ -348,11 +349,11 @@ impl BitmapBuf {
         self.as_bitmap().choose_into(rows, out)
     }
 
-    /// The values of another bitmap at the true values: [`Bitmap::choose_bits`].
+    /// The values of another bitmap at the true values: [`Bitmap::choose_bits`]. Of a mask it is called `choose_values`.
     ///
     /// # Errors
     /// [`Error::RowsDiffer`], and [`Error::OutOfMemory`].
-    #[doc(alias = "choose_values")]
+    #[doc(alias("choose_values", "filter"))]
     #[inline]
     pub fn choose_bits<'b>(&self, bits: impl Into<Bitmap<'b>>) -> Result<BitmapBuf, Error> {
         self.as_bitmap().choose_bits(bits)

@@ -134,8 +134,8 @@ impl Mask {
     /// ```
     #[inline]
     #[must_use]
-    pub fn from_rows<T>(rows: &[T], test: impl Fn(&T) -> bool) -> Mask {
-        granted(Mask::try_from_rows(rows, test), rows.len())
+    pub fn from_rows<T>(rows: &[T], test: impl FnMut(&T) -> bool) -> Mask {
+        Mask::from_buffer(BitBuffer::from_rows(rows, test))
     }
 
     /// The values of masks, one mask after another. No values give `AllTrue(0)`. It is `collect` by a name of its own.

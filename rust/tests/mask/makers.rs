@@ -48,6 +48,25 @@ fn of_masks() {
     assert_eq!(said(too_long).as_deref(), Some(text));
 }
 
+/// A test of rows may count, and sees each row once, in order.
+#[test]
+fn of_rows() {
+    for list in lists() {
+        let (mut seen, mut again) = (vec![], vec![]);
+        let mask = Mask::from_rows(&list, |value| {
+            seen.push(*value);
+            *value
+        });
+        let buffer = BitBuffer::from_rows(&list, |value| {
+            again.push(*value);
+            *value
+        });
+        assert_eq!((&seen, &again), (&list, &list));
+        assert_eq!((values(&mask), values(&buffer)), (list.clone(), list.clone()));
+        assert_eq!(mask, Mask::try_from_rows(&list, |value| *value).unwrap());
+    }
+}
+
 #[test]
 fn builders_grow() {
     let (mut builder, mut list) = (BitBufferMut::default(), Vec::new());

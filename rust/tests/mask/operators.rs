@@ -4,6 +4,7 @@ use crate::lists::{buffers, lists, masks};
 use crate::said;
 use row_mask::{AllOr, BitBuffer, Mask};
 use std::mem::discriminant;
+use std::panic::AssertUnwindSafe;
 
 /// Another list of the same length.
 fn other(list: &[bool]) -> Vec<bool> {
@@ -22,11 +23,20 @@ macro_rules! answer {
     ($a:expr, $b:expr, $list:expr, $other:expr) => {
         let and = combined(&$list, &$other, |a, b| a && b);
         let or = combined(&$list, &$other, |a, b| a || b);
+        let xor = combined(&$list, &$other, |a, b| a != b);
         let not: Vec<bool> = $list.iter().map(|value| !value).collect();
         for a in &$a {
             for b in &$b {
                 assert!((a & b).iter().eq(and.iter().copied()) && (a.clone() & b) == a & b);
                 assert!((a | b).iter().eq(or.iter().copied()) && (a.clone() | b) == a | b);
+                assert!((a ^ b).iter().eq(xor.iter().copied()) && (a.clone() ^ b) == a ^ b);
+                let (mut and, mut or, mut xor) = (a.clone(), a.clone(), a.clone());
+                and &= b;
+                or |= b;
+                xor ^= b;
+                assert!(and == a & b && or == a | b && xor == a ^ b);
+                assert!(and == a.clone() & b.clone() && or == a.clone() | b.clone());
+                assert!(xor == a.clone() ^ b.clone());
             }
             assert!((!a).iter().eq(not.iter().copied()) && !a.clone() == !a);
             assert!(a.clone() == *a && a.iter().eq($list.iter().copied()));
@@ -59,6 +69,8 @@ fn as_by_name() {
             same(&(a | b), &a.try_bitor(b).unwrap());
             same(&(a.clone() & b), &a.clone().try_into_bitand(b).unwrap());
             same(&(a.clone() | b), &a.clone().try_into_bitor(b).unwrap());
+            same(&(a ^ b), &a.try_bitxor(b).unwrap());
+            same(&(a.clone() ^ b), &a.clone().try_into_bitxor(b).unwrap());
             same(&!a, &a.try_not().unwrap());
             same(&!a.clone(), &a.clone().try_into_not().unwrap());
             same(&a.clone(), a);
@@ -81,8 +93,15 @@ fn in_place() {
     let (own, shared) = (BitBuffer::from(vec![true, true, false, true]), rows.clone());
     assert_eq!(bytes(&shared), bytes(&rows));
     let place = bytes(&own);
-    let made = !((own & &rows) | &ones);
+    let mut made = !((own & &rows) | &ones) ^ &rows;
+    made &= &ones;
+    made |= &rows;
+    made ^= &ones;
     assert_eq!(bytes(&made), place);
+    let mut mask = Mask::from(made);
+    mask ^= &Mask::from(BitBuffer::from(vec![true, true, false, false]));
+    let values = mask.values().expect("some are true, and some not");
+    assert_eq!((bytes(values.bit_buffer()), mask.to_string().as_str()), (place, "1000"));
     let made = shared & &ones;
     assert_ne!(bytes(&made), bytes(&rows));
     assert_eq!(made, rows);
@@ -98,6 +117,8 @@ fn of_two_lengths_panic() {
         ("bitor", said(|| &a | &b)),
         ("into_bitand", said(|| a.clone() & &b)),
         ("into_bitor", said(|| a.clone() | &b)),
+        ("bitxor", said(|| &a ^ &b)),
+        ("into_bitxor", said(|| a.clone() ^ b.clone())),
     ];
     for (call, said) in panics {
         assert_eq!(said, Some(format!("row_mask: `{call}` {differ}")));
@@ -109,11 +130,34 @@ fn of_two_lengths_panic() {
         ("into_bitor", "2 is not 3", said(|| p.clone() | &q)),
         ("bitand", "2 is not 3", said(|| &p & &Mask::AllTrue(3))),
         ("into_bitor", "1 is not 2", said(|| Mask::AllTrue(1) | &p)),
+        ("bitxor", "2 is not 3", said(|| &p ^ &Mask::AllTrue(3))),
+        ("into_bitxor", "2 is not 3", said(|| p.clone() ^ q.clone())),
     ];
     for (call, lengths, said) in panics {
         let wanted = format!("row_mask: `{call}`: Masks must have the same length: {lengths}");
         assert_eq!(said, Some(wanted));
     }
+}
+
+/// In place, nothing is changed then.
+#[test]
+fn in_place_of_two_lengths_panic() {
+    let (list, longer) = (vec![true, false], Mask::AllTrue(3));
+    let (mut mask, mut buffer) = (Mask::from_iter(list.clone()), BitBuffer::from(list.clone()));
+    let other = BitBuffer::new_set(3);
+    let panics = [
+        ("&=", said(AssertUnwindSafe(|| mask &= &longer))),
+        ("|=", said(AssertUnwindSafe(|| mask |= &longer))),
+        ("^=", said(AssertUnwindSafe(|| mask ^= &longer))),
+        ("&=", said(AssertUnwindSafe(|| buffer &= &other))),
+        ("|=", said(AssertUnwindSafe(|| buffer |= &other))),
+        ("^=", said(AssertUnwindSafe(|| buffer ^= &other))),
+    ];
+    for (call, said) in panics {
+        let wanted = format!("row_mask: `{call}` needs `self.len() == other.len()`: 2 is not 3");
+        assert_eq!(said, Some(wanted));
+    }
+    assert_eq!((mask, buffer), (Mask::from_iter(list.clone()), BitBuffer::from(list)));
 }
 
 /// What is lent by a mask can be cloned.

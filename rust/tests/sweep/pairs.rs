@@ -5,7 +5,6 @@ use row_mask::{Bitmap, BitmapBuf, Error, Room};
 
 type Into<R> = fn(Bitmap<'_>, Bitmap<'_>, &mut R) -> Result<(), Error>;
 
-#[expect(clippy::redundant_closure_for_method_calls, reason = "a method fits one lifetime alone")]
 pub fn pairs(seen: &mut Comparisons, random: &mut Generator, list: &[bool], bitmap: Bitmap<'_>) {
     let share = [3, 128, 253][random.below(3)];
     let (other, offset) = (random.list(list.len(), share), random.below(16));
