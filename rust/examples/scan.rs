@@ -72,17 +72,17 @@ fn by_bitmaps(columns: &Columns) -> Result<Left, Error> {
     let (names, has_name) = &columns.names;
     let mut mask = BitmapBuf::from_rows(prices, |price| cheap(*price));
     for there in [has_price, has_amount, has_name] {
-        mask.and_with(there.as_bitmap())?;
+        mask.and_with(there)?;
     }
     mask.retain(|i| large(amounts[i]));
     mask.retain(|i| named(names.get(i)));
-    let selection = Selection::new(mask.as_bitmap());
+    let selection = Selection::new(&mask);
     let (notes, has_note) = &columns.notes;
     Ok(Left {
         prices: selection.choose(prices)?,
         amounts: selection.choose(amounts)?,
         names: names.chosen(&selection)?,
-        notes: (notes.chosen(&selection)?, selection.choose_bits(has_note.as_bitmap())?),
+        notes: (notes.chosen(&selection)?, selection.choose_bits(has_note)?),
     })
 }
 

@@ -147,6 +147,14 @@ impl From<BitmapBuf> for BitBuffer {
     }
 }
 
+/// The bits of the mask, which are shared where it has some, and else made.
+impl From<Mask> for BitBuffer {
+    #[inline]
+    fn from(mask: Mask) -> BitBuffer {
+        mask.into_bit_buffer()
+    }
+}
+
 /// A copy.
 impl From<Bitmap<'_>> for BitBuffer {
     fn from(bitmap: Bitmap<'_>) -> BitBuffer {

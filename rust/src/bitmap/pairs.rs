@@ -10,6 +10,7 @@ impl Bitmap<'_> {
     ///
     /// # Errors
     /// [`Error::LengthsDiffer`], and [`Error::OutOfMemory`].
+    #[doc(alias("bitand", "&"))]
     pub fn and<'b>(self, other: impl Into<Bitmap<'b>>) -> Result<BitmapBuf, Error> {
         let other = other.into();
         made(|out| self.and_into(other, out))
@@ -45,6 +46,7 @@ impl Bitmap<'_> {
     ///
     /// # Errors
     /// [`Error::LengthsDiffer`], and [`Error::OutOfMemory`].
+    #[doc(alias("bitor", "|"))]
     pub fn or<'b>(self, other: impl Into<Bitmap<'b>>) -> Result<BitmapBuf, Error> {
         let other = other.into();
         made(|out| self.or_into(other, out))
@@ -80,6 +82,7 @@ impl Bitmap<'_> {
     ///
     /// # Errors
     /// [`Error::LengthsDiffer`], and [`Error::OutOfMemory`].
+    #[doc(alias = "bitand_not")]
     pub fn and_not<'b>(self, other: impl Into<Bitmap<'b>>) -> Result<BitmapBuf, Error> {
         let other = other.into();
         made(|out| self.and_not_into(other, out))
@@ -115,6 +118,7 @@ impl Bitmap<'_> {
     ///
     /// # Errors
     /// [`Error::LengthsDiffer`], and [`Error::OutOfMemory`].
+    #[doc(alias("bitxor", "^"))]
     pub fn xor<'b>(self, other: impl Into<Bitmap<'b>>) -> Result<BitmapBuf, Error> {
         let other = other.into();
         made(|out| self.xor_into(other, out))
@@ -152,6 +156,7 @@ impl BitmapBuf {
     ///
     /// # Errors
     /// [`Error::LengthsDiffer`].
+    #[doc(alias = "&=")]
     pub fn and_with<'b>(&mut self, other: impl Into<Bitmap<'b>>) -> Result<(), Error> {
         let other = other.into();
         self.as_bitmap().of_length_of(other)?;
@@ -163,6 +168,7 @@ impl BitmapBuf {
     ///
     /// # Errors
     /// [`Error::LengthsDiffer`].
+    #[doc(alias = "|=")]
     pub fn or_with<'b>(&mut self, other: impl Into<Bitmap<'b>>) -> Result<(), Error> {
         let other = other.into();
         self.as_bitmap().of_length_of(other)?;
@@ -185,6 +191,7 @@ impl BitmapBuf {
     ///
     /// # Errors
     /// [`Error::LengthsDiffer`].
+    #[doc(alias = "^=")]
     pub fn xor_with<'b>(&mut self, other: impl Into<Bitmap<'b>>) -> Result<(), Error> {
         let other = other.into();
         self.as_bitmap().of_length_of(other)?;

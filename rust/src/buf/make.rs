@@ -107,7 +107,7 @@ impl BitmapBuf {
     }
 
     /// For each row whether it is one that is asked for: a predicate over a column. It takes less time than the same by
-    /// [`collect`](Iterator::collect) or [`from_fn`](Self::from_fn).
+    /// [`collect`](Iterator::collect) or [`from_fn`](Self::from_fn), which are for rows that are in no slice.
     ///
     /// ```
     /// let rows = row_mask::BitmapBuf::from_rows(&[250, 700, 120], |price| *price < 400);
@@ -157,7 +157,9 @@ impl BitmapBuf {
         Ok(())
     }
 
-    /// `len` values, of which just those at `indices` are true. These may come in any order and more than once.
+    /// `len` values, of which just those at `indices` are true. These may come in any order and more than once. What an
+    /// iterator gives, or a list of another type such as `u32`, is collected to a `Vec<usize>` first, or each is
+    /// [`set`](Self::set).
     ///
     /// # Errors
     /// [`Error::IndexOutOfBounds`] with the first that is not below the length, and [`Error::OutOfMemory`].

@@ -148,6 +148,7 @@ impl BitmapBuf {
     ///
     /// # Errors
     /// [`Error::LengthsDiffer`], and [`Error::OutOfMemory`].
+    #[doc(alias("bitand", "&"))]
     #[inline]
     pub fn and<'b>(&self, other: impl Into<Bitmap<'b>>) -> Result<BitmapBuf, Error> {
         self.as_bitmap().and(other)
@@ -170,6 +171,7 @@ impl BitmapBuf {
     ///
     /// # Errors
     /// [`Error::LengthsDiffer`], and [`Error::OutOfMemory`].
+    #[doc(alias("bitor", "|"))]
     #[inline]
     pub fn or<'b>(&self, other: impl Into<Bitmap<'b>>) -> Result<BitmapBuf, Error> {
         self.as_bitmap().or(other)
@@ -192,6 +194,7 @@ impl BitmapBuf {
     ///
     /// # Errors
     /// [`Error::LengthsDiffer`], and [`Error::OutOfMemory`].
+    #[doc(alias = "bitand_not")]
     #[inline]
     pub fn and_not<'b>(&self, other: impl Into<Bitmap<'b>>) -> Result<BitmapBuf, Error> {
         self.as_bitmap().and_not(other)
@@ -214,6 +217,7 @@ impl BitmapBuf {
     ///
     /// # Errors
     /// [`Error::LengthsDiffer`], and [`Error::OutOfMemory`].
+    #[doc(alias("bitxor", "^"))]
     #[inline]
     pub fn xor<'b>(&self, other: impl Into<Bitmap<'b>>) -> Result<BitmapBuf, Error> {
         self.as_bitmap().xor(other)

@@ -71,6 +71,7 @@ fn each_of_each() {
                     assert_eq!(bitmap, Bitmap::from(mask.values().unwrap()));
                 }
             }
+            assert_eq!(values(&BitBuffer::from(mask.clone())), list);
             same_bitmap(&BitmapBuf::from(mask.clone()), &list);
             same_bitmap(&BitmapBuf::from(mask), &list);
         }
