@@ -1,13 +1,23 @@
 //! Calls of buffers under their plain names. Each panics where a condition is broken, as the one does whose name begins with
 //! `try_`, and ends the process where memory is refused.
 
-use crate::BitmapBuf;
 use crate::bitmap::ends_of;
-use crate::convert::to_share;
 use crate::memory::granted;
 use crate::proved::mask_bits::{BitBuffer, BitBufferMut};
 use alloc::vec::Vec;
+use core::cell::UnsafeCell;
 use core::ops::RangeBounds;
+
+/// A test that may change what it has, for a loop that takes one which doesn't.
+///
+/// # Safety
+/// No call of it begins within another.
+#[inline]
+pub(crate) unsafe fn as_fn<T>(test: impl FnMut(&T) -> bool) -> impl Fn(&T) -> bool {
+    let test = UnsafeCell::new(test);
+    // SAFETY: nobody else has it, and it isn't borrowed when a call begins, as is asked.
+    move |row| unsafe { (*test.get())(row) }
+}
 
 impl BitBuffer {
     /// The first `len` bits of bytes, without a copy. `From<BitmapBuf>` and `collect` make buffers too.
@@ -56,8 +66,8 @@ impl BitBuffer {
     #[inline]
     #[must_use]
     pub fn from_rows<T>(rows: &[T], test: impl FnMut(&T) -> bool) -> BitBuffer {
-        let made = to_share(rows.len(), |out| BitmapBuf::from_rows_into(rows, test, out));
-        granted(made, rows.len()).into()
+        // SAFETY: the test is asked of one row after another.
+        granted(BitBuffer::try_from_rows(rows, unsafe { as_fn(test) }), rows.len())
     }
 
     /// The values in a range, without a copy.

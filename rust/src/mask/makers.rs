@@ -1,6 +1,7 @@
 //! Makers of masks under their plain names. Each panics where the one whose name begins with `try_` returns an error, but
 //! that it ends the process where memory is refused.
 
+use crate::buffer::as_fn;
 use crate::memory::{accepted, granted};
 use crate::proved::mask_bits::BitBuffer;
 use crate::proved::vortex_mask::Mask;
@@ -135,7 +136,8 @@ impl Mask {
     #[inline]
     #[must_use]
     pub fn from_rows<T>(rows: &[T], test: impl FnMut(&T) -> bool) -> Mask {
-        Mask::from_buffer(BitBuffer::from_rows(rows, test))
+        // SAFETY: the test is asked of one row after another.
+        granted(Mask::try_from_rows(rows, unsafe { as_fn(test) }), rows.len())
     }
 
     /// The values of masks, one mask after another. No values give `AllTrue(0)`. It is `collect` by a name of its own.
