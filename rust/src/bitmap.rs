@@ -22,6 +22,11 @@ pub(crate) mod room;
 /// A list of truth values, packed eight to a byte, that lies in borrowed bytes: value `i` is the bit at position
 /// `p = offset + i`, which is bit `p % 8`, counted from the lowest, of byte `p / 8`.
 ///
+/// A call that takes a bitmap also takes `&` of a [`BitmapBuf`](crate::BitmapBuf), a [`BitBuffer`](crate::BitBuffer),
+/// [`MaskValues`](crate::MaskValues) or a [`Selection`](crate::Selection). Of a [`Mask`](crate::Mask), pass
+/// `&mask.to_bit_buffer()`: one whose values are all the same has no bits to borrow, and a call that made them would take
+/// memory where none is expected.
+///
 /// ```
 /// use row_mask::Bitmap;
 ///

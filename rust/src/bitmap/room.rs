@@ -29,7 +29,8 @@ use core::slice;
 /// ```
 #[diagnostic::on_unimplemented(
     message = "no bitmap can be written into `{Self}`",
-    note = "a bitmap is written into a `BitmapBuf` or into bytes: pass `&mut bytes[..]` for a `Vec<u8>` or an array"
+    note = "a bitmap is written into a `BitmapBuf` or into bytes: pass `&mut bytes[..]` for a `Vec<u8>` or an array",
+    note = "a list of `bool` is made by `bitmap.iter().collect()`"
 )]
 pub trait Room: sealed::Room {}
 
