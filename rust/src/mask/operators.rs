@@ -51,6 +51,15 @@ impl BitBuffer {
 impl Mask {
     /// The values that are true in one and not in the other: `^`, with an error where memory is refused.
     ///
+    /// ```
+    /// use row_mask::Mask;
+    ///
+    /// let (first, second) = (Mask::from_indices(4, [0, 1]), Mask::from_indices(4, [1, 2]));
+    /// assert_eq!((&first ^ &second).to_string(), "1010");
+    /// assert_eq!(first.try_bitxor(&second)?, &first ^ &second);
+    /// # Ok::<(), row_mask::MaskError>(())
+    /// ```
+    ///
     /// # Errors
     /// [`MaskError::Memory`].
     ///
