@@ -105,3 +105,14 @@ fn all_and_none_take_the_closures_of_their_names() {
     let answers = [AllOr::All, AllOr::None, AllOr::Some(3)];
     assert_eq!(answers.map(|it| it.unwrap_or_else(|| 1, || 2)), [1, 2, 3]);
 }
+
+/// The list of runs has room for its runs, and for two more that are written at once.
+#[test]
+fn runs_take_no_more_room_than_they_need() {
+    for (step, count) in [(1, 1), (2, 3_200)] {
+        let values: BitBuffer = (0..6_400).map(|i| i % step == 0).collect();
+        let runs = values.runs();
+        assert_eq!(runs.len(), count);
+        assert!(runs.capacity() <= count + 2, "{} for {count}", runs.capacity());
+    }
+}
