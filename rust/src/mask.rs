@@ -6,6 +6,7 @@ mod cached;
 mod calls;
 mod makers;
 mod operators;
+mod values;
 mod walks;
 
 use crate::kit::{AllocError, TryClone};

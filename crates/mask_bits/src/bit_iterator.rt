@@ -11,10 +11,14 @@ use std::marker::Model;
 /// The values of a buffer, in their order.
 #[derive(Drop)]
 pub struct BitIterator<'a> {
+    // rust: visible
     chunks: BitChunks<'a>,
+    // rust: visible
     next: usize,
     // the word at hand, and the index at which it ends or the list does
+    // rust: visible
     word: u64,
+    // rust: visible
     end: usize,
 }
 
@@ -42,6 +46,7 @@ impl<'a> BitIterator<'a> {
     }
 }
 
+// rust: by hand
 impl Iterator for BitIterator<'_> {
     type Item = bool;
 
@@ -81,6 +86,7 @@ impl ExactSizeIterator for BitIterator<'_> {
 
 // The word of index `next`, and the index at which it ends or the list does, where `word` and `end`
 // are these unless `next` is `end`.
+// rust: visible
 #[inline]
 fn word_at_hand(chunks: &BitChunks<'_>, next: usize, end: usize, word: u64) -> (u64, usize)
     requires within { next < length chunks.now }

@@ -2,6 +2,7 @@
 #![tactic(auto)]
 
 // A hidden module serves the other crates of this repository alone. README.md lists them.
+// rust: visible
 mod bit_iterator;
 mod bitops;
 #[doc(hidden)]

@@ -3,7 +3,7 @@
 
 use crate::kit::prelude::*;
 // A hidden module serves the other crates of this repository alone. README.md lists them.
-mod bit_iterator;
+pub(crate) mod bit_iterator;
 mod bitops;
 #[doc(hidden)]
 pub mod blocks;

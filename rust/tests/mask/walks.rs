@@ -1,7 +1,7 @@
 //! Walks by `for`, and what each walk has besides its steps.
 
 use row_mask::intersect_by_rank::RankBits;
-use row_mask::{BitBuffer, Mask};
+use row_mask::{BitBuffer, Bytes, Mask};
 use std::fmt::Debug;
 use std::iter::FusedIterator;
 
@@ -18,6 +18,42 @@ fn values_by_for() {
     }
     assert!(of_mask == list && of_buffer == list);
     assert!((&Mask::AllTrue(3)).into_iter().eq([true; 3]));
+}
+
+/// A walk yields a list: step by step with the length at each, and by `fold` behind any number of steps.
+fn yields<I: ExactSizeIterator<Item = bool>>(list: &[bool], walk: impl Fn() -> I) {
+    let mut steps = walk();
+    for (i, value) in list.iter().enumerate() {
+        let left = list.len() - i;
+        assert_eq!((steps.len(), steps.size_hint()), (left, (left, Some(left))));
+        assert_eq!(steps.next(), Some(*value));
+    }
+    assert_eq!((steps.len(), steps.next(), steps.next()), (0, None, None));
+    for before in [0, 1, 31, 63, 64, 65, 127, 128, 129, 190].map(|it| it.min(list.len())) {
+        let (mut rest, mut folded) = (walk(), list[..before].to_vec());
+        assert!(rest.by_ref().take(before).eq(folded.iter().copied()));
+        assert_eq!(rest.len(), list.len() - before);
+        rest.for_each(|value| folded.push(value));
+        assert_eq!(folded, list);
+    }
+}
+
+#[test]
+fn values_at_each_offset_and_length() {
+    let bytes: Vec<u8> = (0..40_u32).map(|i| (i * i * 37 % 251).to_le_bytes()[0]).collect();
+    let shared = Bytes::from(bytes.clone());
+    for (offset, len) in (0..=9).flat_map(|offset| (0..=200).map(move |len| (offset, len))) {
+        let list: Vec<bool> =
+            (offset..offset + len).map(|i| bytes[i / 8] >> (i % 8) & 1 == 1).collect();
+        let buffer = BitBuffer::new_with_offset(shared.clone(), offset, len);
+        yields(&list, || buffer.iter());
+        let mask = Mask::from(buffer.clone());
+        yields(&list, || mask.iter());
+    }
+    for (value, len) in [true, false].into_iter().flat_map(|it| [0, 1, 64, 200].map(|n| (it, n))) {
+        let mask = Mask::new(len, value);
+        yields(&vec![value; len], || mask.iter());
+    }
 }
 
 /// A walk that has ended stays so.

@@ -22,6 +22,7 @@ pub enum MaskBoolIter<'a> {
     Bits(BitIterator<'a>),
 }
 
+// rust: by hand
 #[tactic(auto, using(crate::proofs::Masks::MaskWalkLemmas::next_facts))]
 impl Iterator for MaskBoolIter<'_> {
     type Item = bool;

@@ -6,41 +6,17 @@ use crate::proved::mask_bits::chunks::BitChunks;
 
 /// The values of a buffer, in their order.
 pub struct BitIterator<'a> {
-    chunks: BitChunks<'a>,
-    next: usize,
+    pub(crate) chunks: BitChunks<'a>,
+    pub(crate) next: usize,
     // the word at hand, and the index at which it ends or the list does
-    word: u64,
-    end: usize,
+    pub(crate) word: u64,
+    pub(crate) end: usize,
 }
 
 impl<'a> BitIterator<'a> {
     #[inline(always)]
     pub(crate) fn new(chunks: BitChunks<'a>) -> BitIterator<'a> {
         BitIterator { chunks, next: 0, word: 0, end: 0 }
-    }
-}
-
-impl Iterator for BitIterator<'_> {
-    type Item = bool;
-
-    #[inline]
-    fn next(&mut self) -> Option<bool> {
-        // within a word one test serves for its end and the list's
-        if self.next == self.end && self.next == self.chunks.values_len() {
-            return None;
-        }
-        let (word, end) = word_at_hand(&self.chunks, self.next, self.end, self.word);
-        self.word = word;
-        self.end = end;
-        let bit = word >> (self.next % 64);
-        self.next += 1;
-        Some(bit & 1 == 1)
-    }
-
-    #[inline]
-    fn size_hint(&self) -> (usize, Option<usize>) {
-        let left = self.len();
-        (left, Some(left))
     }
 }
 
@@ -54,7 +30,12 @@ impl ExactSizeIterator for BitIterator<'_> {
 // The word of index `next`, and the index at which it ends or the list does, where `word` and `end`
 // are these unless `next` is `end`.
 #[inline]
-fn word_at_hand(chunks: &BitChunks<'_>, next: usize, end: usize, word: u64) -> (u64, usize) {
+pub(crate) fn word_at_hand(
+    chunks: &BitChunks<'_>,
+    next: usize,
+    end: usize,
+    word: u64,
+) -> (u64, usize) {
     if next == end {
         let rest = chunks.values_len() - next;
         (chunks.started_word_proved(next / 64), next + rest.min(64))

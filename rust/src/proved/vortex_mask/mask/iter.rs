@@ -13,30 +13,6 @@ pub enum MaskBoolIter<'a> {
     Bits(BitIterator<'a>),
 }
 
-impl Iterator for MaskBoolIter<'_> {
-    type Item = bool;
-
-    #[inline]
-    fn next(&mut self) -> Option<bool> {
-        match self {
-            MaskBoolIter::Repeat { value, remaining } => {
-                if *remaining == 0 {
-                    return None;
-                }
-                *remaining -= 1;
-                Some(*value)
-            }
-            MaskBoolIter::Bits(bits) => bits.next(),
-        }
-    }
-
-    #[inline]
-    fn size_hint(&self) -> (usize, Option<usize>) {
-        let left = self.len();
-        (left, Some(left))
-    }
-}
-
 impl ExactSizeIterator for MaskBoolIter<'_> {
     #[inline(always)]
     fn len(&self) -> usize {
