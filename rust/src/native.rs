@@ -18,7 +18,7 @@ mod tests;
 
 #[cfg(target_arch = "x86_64")]
 pub(crate) use deposits::Bmi2;
-pub(crate) use deposits::{by_loop, quickest};
+pub(crate) use deposits::{by_loop, quickest, quickest_path};
 #[cfg(target_arch = "x86_64")]
 pub(crate) use extracts::{extract, put_pairs};
 pub(crate) use features::has_quick_bits;

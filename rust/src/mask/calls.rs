@@ -97,6 +97,17 @@ impl Mask {
     #[must_use]
     #[track_caller]
     pub fn intersect_by_rank(&self, mask: &Mask) -> Mask {
+        // (a side of one value asks for no loop: these are the proved call's answers, without its many registers)
+        if mask.len() == self.true_count() {
+            match (self, mask) {
+                (_, Mask::AllTrue(_)) => return Clone::clone(self),
+                (_, Mask::AllFalse(_)) | (Mask::AllFalse(_), _) => {
+                    return Mask::new_false(self.len());
+                }
+                (Mask::AllTrue(_), Mask::Values(_)) => return Clone::clone(mask),
+                (Mask::Values(_), Mask::Values(_)) => {}
+            }
+        }
         granted(self.try_intersect_by_rank(mask), self.len())
     }
 

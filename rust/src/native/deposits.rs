@@ -2,9 +2,10 @@
 
 #[cfg(target_arch = "x86_64")]
 use super::instructions::deposit;
-use crate::proved::vortex_mask::intersect_by_rank::deposits_by_loop;
+use crate::proved::vortex_mask::MaskValues;
 #[cfg(target_arch = "x86_64")]
 use crate::proved::vortex_mask::intersect_by_rank::{DepositBits, SelectBit};
+use crate::proved::vortex_mask::intersect_by_rank::{RankPath, deposits_by_loop, rank_path};
 
 /// The first of two calls where PDEP is quick, by which it deposits, and else the second.
 macro_rules! quickest {
@@ -22,6 +23,16 @@ pub(crate) use quickest;
 #[inline]
 pub(crate) fn by_loop(len: usize, true_count: usize) -> bool {
     !super::has_quick_bits() && deposits_by_loop(len, true_count)
+}
+
+/// The path of two mixed masks: that of `rank_path`, but by the bits instead of a list of ranks where the processor has a
+/// quick PDEP. Then to make bits of ranks takes longer than all else. Both paths take the same steps, and cache nothing.
+#[inline]
+pub(crate) fn quickest_path(values: &MaskValues, ranks: &MaskValues) -> RankPath {
+    match rank_path(values, ranks) {
+        RankPath::RankIndices if super::has_quick_bits() => RankPath::BitBuffers,
+        path => path,
+    }
 }
 
 /// Deposits and selections by PDEP.

@@ -9,6 +9,7 @@ mod lists;
 mod makers;
 mod operators;
 mod plain;
+mod ranks;
 mod threads;
 mod walks;
 

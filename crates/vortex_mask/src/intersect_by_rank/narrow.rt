@@ -1,9 +1,8 @@
 //! The call of the kernel that a path names.
 
 ghost use Rattle.std.specs.Prelude.{◌≡◌, ◌<◌, IfOk, IsOkUnless, alloc_error, length};
-ghost use Rattle.std.specs.Cow.{cow_slice_items};
 ghost use Rattle.mask_bits.specs.Buffer.{values};
-ghost use Rattle.mask_bits.specs.Positions.{count, positions};
+ghost use Rattle.mask_bits.specs.Positions.{count};
 ghost use Rattle.vortex_mask.specs.Mask.{truth};
 ghost use Rattle.vortex_mask.specs.Path.{path_of, IsNarrowedOn};
 
@@ -15,8 +14,7 @@ use crate::intersect_by_rank::kernels::{
 };
 use crate::intersect_by_rank::path::{RankPath, rank_path};
 use crate::mask::{Mask, MaskError, MaskValues};
-use std::alloc::{AllocError, Global};
-use std::borrow::CowSlice;
+use std::alloc::Global;
 
 // The rank intersection of two mixed masks, by the kernel that `rank_path` names.
 // rust: inline
@@ -68,19 +66,8 @@ fn by_indices<C: CountSteps>(
         (C.step_counts r.1)) }
     ensures refused { IsOkUnless result (MaskError.Memory alloc_error) }
 {
-    let (indices, ranks) = (true_indices(alloc, rows)?, true_indices(alloc, ranks)?);
+    let (indices, ranks) = (rows.true_indices(alloc)?, ranks.true_indices(alloc)?);
     intersect_by_rank_indices_with(alloc, rows.len(), indices.as_slice(), ranks.as_slice())
-}
-
-// The true indices: the cached ones, or a list made for the call.
-fn true_indices(alloc: Global, mask: &MaskValues) -> Result<CowSlice<'_, usize>, AllocError>
-    ensures { IfOk result
-        (λ indices. cow_slice_items indices ≡ positions (values mask.now.buffer)) }
-{
-    Ok(match mask.cached_indices() {
-        Some(cached) => CowSlice::Borrowed(cached),
-        None => CowSlice::Owned(mask.index_list(alloc)?),
-    })
 }
 
 // By a selection for each true index of the second, which are walked over where they aren't cached.

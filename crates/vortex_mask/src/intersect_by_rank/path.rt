@@ -43,6 +43,7 @@ fn times_true(mask: &MaskValues, times: u64) -> u128
 
 /// The path of two mixed masks, by their lengths, their counts and which lists of true indices are
 /// cached. It makes no list.
+// rust: replaced by native::quickest_path
 pub fn rank_path(values: &MaskValues, ranks: &MaskValues) -> RankPath
     ensures { result ≡ path_of values.now ranks.now }
 {

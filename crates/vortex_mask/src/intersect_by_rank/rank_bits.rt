@@ -4,6 +4,7 @@ ghost use Rattle.std.specs.Prelude.{◌≡◌, ◌+◌, ◌/◌, ◌<◌, ◌≤
 ghost use Rattle.mask_bits.specs.Buffer.{IsWithinBytes};
 ghost use Rattle.mask_bits.specs.Words.{word_bits, window};
 
+use mask_bits::unchecked::part;
 use mask_bits::{BitBuffer, words};
 use std::marker::Model;
 
@@ -103,5 +104,5 @@ pub(super) fn word_inside(bytes: &[u8], position: usize) -> u64
 {
     // sixteen bytes just, which `word_at` need not test then
     let first = position / 8;
-    words::word_at(&bytes[first..first + 16], position % 8)
+    words::word_at(part(bytes, first, 16), position % 8)
 }

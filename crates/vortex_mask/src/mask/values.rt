@@ -5,6 +5,7 @@ ghost use Rattle.std.specs.List.{flat_map, range_with_len};
 ghost use Rattle.std.specs.Vec.{vec_capacity, vec_len};
 ghost use Rattle.std.specs.Option.{option_map};
 ghost use Rattle.std.specs.Borrow.{sem};
+ghost use Rattle.std.specs.Cow.{cow_slice_items};
 ghost use Rattle.std.specs.Io.BufRead.{Rests};
 ghost use Rattle.mask_bits.specs.Buffer.{values};
 ghost use Rattle.mask_bits.specs.Positions.{count, positions};
@@ -19,6 +20,7 @@ use crate::cached_list::{Cached, cached};
 use crate::mask::{MaskError, MaskIter};
 use mask_bits::{BitBuffer, laws};
 use std::alloc::{AllocError, Global};
+use std::borrow::CowSlice;
 use std::fmt;
 use std::marker::Model;
 use std::rc::Rc;
@@ -330,6 +332,18 @@ impl MaskValues {
             }
             _ => self.buffer.indices(alloc, self.true_count),
         }
+    }
+
+    // The true indices: the cached ones, or a list made for the caller. (In Rust that is cached from then on.)
+    // rust: by hand
+    pub(crate) fn true_indices(&self, alloc: Global) -> Result<CowSlice<'_, usize>, AllocError>
+        ensures { IfOk result
+            (λ indices. cow_slice_items indices ≡ positions (values self.now.buffer)) }
+    {
+        Ok(match self.cached_indices() {
+            Some(cached) => CowSlice::Borrowed(cached),
+            None => CowSlice::Owned(self.index_list(alloc)?),
+        })
     }
 
     // The runs of true indices: by a walk where few values are true, of which most words have none.

@@ -88,7 +88,8 @@ pub fn narrow_by_bits<D: DepositBits>(
 }
 
 // Writes what `narrow_by_bits` does, and answers the steps where `C` counts them.
-// rust: inline
+// rust: level
+#[inline(never)]
 fn narrow_by_bits_with<D: DepositBits, C: CountSteps>(
     chunks: &BitChunks<'_>,
     ranks: &RankBits<'_>,

@@ -2,6 +2,7 @@
 //! The bits of a rank mask, read many at once from any bit on.
 
 use crate::kit::prelude::*;
+use crate::proved::mask_bits::unchecked::part;
 use crate::proved::mask_bits::{BitBuffer, words};
 
 /// The bits of a rank mask, read 64 at a time from any bit on.
@@ -112,5 +113,5 @@ impl<'a> RankBits<'a> {
 pub(super) fn word_inside(bytes: &[u8], position: usize) -> u64 {
     // sixteen bytes just, which `word_at` need not test then
     let first = position / 8;
-    words::word_at(&bytes[first..first + 16], position % 8)
+    words::word_at(part(bytes, first, 16), position % 8)
 }

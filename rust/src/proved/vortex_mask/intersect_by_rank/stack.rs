@@ -12,7 +12,7 @@ pub(super) fn begins_by_lists(first: &MaskValues, masks: &[Mask]) -> bool {
     for mask in masks {
         if let Mask::Values(ranks) = mask {
             let are_listed = first.cached_indices().is_some() && ranks.cached_indices().is_some();
-            return are_listed && rank_path(first, ranks) == RankPath::Indices;
+            return are_listed && crate::native::quickest_path(first, ranks) == RankPath::Indices;
         }
     }
     false

@@ -2,6 +2,7 @@
 //! The values of a mask that has both true and false ones.
 
 use crate::kit::AllocError;
+use crate::kit::CowSlice;
 use crate::kit::prelude::*;
 use crate::proved::mask_bits::BitBuffer;
 use crate::proved::vortex_mask::cached_list::{Cached, cached};

@@ -11,4 +11,4 @@ window-sixteen bytes n k p sixteen is =
     ∙ grind (arith, bit, byte, get_or-take n (drop k bytes) ((p % 8 + j) / 8) 0 (omega arith), get_or-drop k bytes ((p % 8 + j) / 8) 0))
 
 pub returns : goal.returns
-returns c = c.word_at.ensures ∙ window-sixteen c.args.bytes.now (c.args.position / 8 + 16 - c.args.position / 8) (c.args.position / 8) c.args.position (omega arith) refl
+returns c = grind (arith, c.word_at.ensures, c.part.ensures, window-sixteen c.args.bytes.now (c.args.position / 8 + 16 - c.args.position / 8) (c.args.position / 8) c.args.position (omega arith) refl)

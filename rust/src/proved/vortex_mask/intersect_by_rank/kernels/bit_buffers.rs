@@ -90,8 +90,30 @@ pub(crate) fn narrow_by_bits_any<D: DepositBits>(
 }
 
 // Writes what `narrow_by_bits` does, and answers the steps where `C` counts them.
-#[inline(always)]
+#[inline(never)]
 fn narrow_by_bits_with<D: DepositBits, C: CountSteps>(
+    chunks: &BitChunks<'_>,
+    ranks: &RankBits<'_>,
+    out: &mut [u8],
+) -> C {
+    crate::native::by_level!(
+        narrow_by_bits_with_v3::<D, C>(chunks, ranks, out),
+        narrow_by_bits_with_any::<D, C>(chunks, ranks, out)
+    )
+}
+
+#[cfg(target_arch = "x86_64")]
+#[target_feature(enable = "avx2,bmi1,bmi2,f16c,fma,lzcnt,movbe,popcnt")]
+fn narrow_by_bits_with_v3<D: DepositBits, C: CountSteps>(
+    chunks: &BitChunks<'_>,
+    ranks: &RankBits<'_>,
+    out: &mut [u8],
+) -> C {
+    narrow_by_bits_with_any::<D, C>(chunks, ranks, out)
+}
+
+#[inline(always)]
+fn narrow_by_bits_with_any<D: DepositBits, C: CountSteps>(
     chunks: &BitChunks<'_>,
     ranks: &RankBits<'_>,
     out: &mut [u8],
