@@ -138,10 +138,22 @@ impl From<Vec<bool>> for BitBuffer {
     }
 }
 
-/// The values, packed. They are listed first.
+/// The values, packed. They are listed first, but for a few, which need no memory for that.
 impl FromIterator<bool> for BitBuffer {
     fn from_iter<I: IntoIterator<Item = bool>>(values: I) -> BitBuffer {
-        BitBuffer::from(Vec::from_iter(values))
+        let mut values = values.into_iter();
+        let mut few = [false; 64];
+        if values.size_hint().1.is_none_or(|most| most >= few.len()) {
+            return BitBuffer::from(values.collect::<Vec<bool>>());
+        }
+        for count in 0..few.len() {
+            match values.next() {
+                Some(value) => few[count] = value,
+                None => return BitBuffer::from(&few[..count]),
+            }
+        }
+        // (there are more than the walk said)
+        BitBuffer::from(few.into_iter().chain(values).collect::<Vec<bool>>())
     }
 }
 

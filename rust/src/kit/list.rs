@@ -28,7 +28,7 @@ pub trait List<T>: Sized {
     /// [`AllocError`] where memory is refused.
     fn try_push(&mut self, item: T) -> Result<(), AllocError>;
 
-    /// Gives back the room that is left, where there is memory for a list without it.
+    /// Gives back the room that is left, where that isn't little and there is memory for a list without it.
     fn shrink_or_stay(&mut self)
     where
         T: Copy;
@@ -87,7 +87,8 @@ impl<T> List<T> for Vec<T> {
         T: Copy,
     {
         let (count, room) = (self.len(), self.capacity());
-        if size_of::<T>() == 0 || count == 0 || count == room {
+        // (fewer bytes than a line of the cache aren't worth the call)
+        if size_of::<T>() == 0 || count == 0 || (room - count) * size_of::<T>() < 64 {
             return;
         }
         let mut held = ManuallyDrop::new(mem::take(self));

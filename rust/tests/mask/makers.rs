@@ -3,6 +3,7 @@
 use crate::lists::{buffers, lists};
 use crate::said;
 use row_mask::{BitBuffer, BitBufferMut, Bytes, Mask};
+use std::iter;
 
 fn values<'a>(of: impl IntoIterator<Item = bool> + 'a) -> Vec<bool> {
     of.into_iter().collect()
@@ -95,5 +96,36 @@ fn of_bytes() {
     for it in made {
         assert_eq!(it.as_slice(), bytes);
         assert_eq!(format!("{:?}", BitBuffer::new(it, 10)), "BitBuffer(0010110111)");
+    }
+}
+
+/// Values that are walked over give one list, whatever the walk says of their number.
+#[test]
+fn of_a_walk() {
+    for len in 0..=140 {
+        let list: Vec<bool> = (0..len).map(|i| i * i % 7 < 3).collect();
+        let wanted = BitBuffer::from(&list[..]);
+        assert_eq!(wanted, list.iter().copied().collect());
+        assert_eq!(wanted, list.iter().copied().filter(|_| true).collect());
+        let mut next = list.iter().copied();
+        assert_eq!(wanted, iter::from_fn(|| next.next()).collect());
+        for said in [0, 1, 63, 64, 65] {
+            assert_eq!(wanted, Said(list.iter().copied(), said).collect());
+        }
+    }
+}
+
+/// A walk that says a wrong number.
+struct Said<I>(I, usize);
+
+impl<I: Iterator> Iterator for Said<I> {
+    type Item = I::Item;
+
+    fn next(&mut self) -> Option<I::Item> {
+        self.0.next()
+    }
+
+    fn size_hint(&self) -> (usize, Option<usize>) {
+        (0, Some(self.1))
     }
 }
