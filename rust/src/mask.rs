@@ -18,16 +18,9 @@ use core::fmt;
 use core::hash::{Hash, Hasher};
 use core::ops::{BitAnd, BitOr, Not};
 
-// Operators and clones, by calls that both types have.
+// Operators, and clones that report missing memory, by calls that both types have.
 macro_rules! operators {
     ($($of:ident)*) => {$(
-        /// The same values. A clone shares their bytes, and takes no memory.
-        impl Clone for $of {
-            fn clone(&self) -> $of {
-                granted(self.try_clone(), self.len())
-            }
-        }
-
         /// As `try_clone`, which is refused only for want of memory.
         impl TryClone for $of {
             fn clone(&self) -> Result<$of, AllocError> {
@@ -97,6 +90,25 @@ macro_rules! operators {
 }
 
 operators!(BitBuffer Mask);
+
+/// The same values. A clone shares their bytes, and takes no memory.
+impl Clone for BitBuffer {
+    fn clone(&self) -> BitBuffer {
+        granted(self.try_clone(), self.len())
+    }
+}
+
+/// The same values. A clone shares them, with the lists that are made of them, and takes no memory.
+impl Clone for Mask {
+    #[inline]
+    fn clone(&self) -> Mask {
+        match self {
+            Mask::AllTrue(len) => Mask::AllTrue(*len),
+            Mask::AllFalse(len) => Mask::AllFalse(*len),
+            Mask::Values(values) => Mask::Values(Clone::clone(values)),
+        }
+    }
+}
 
 /// As `try_clone`, which is refused only for want of memory.
 impl TryClone for MaskValues {

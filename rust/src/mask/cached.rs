@@ -141,7 +141,8 @@ impl MaskValues {
     #[inline]
     #[must_use]
     pub fn indices(&self) -> &[usize] {
-        granted(self.try_indices(), self.len())
+        // (a list that is there is lent without a `Result` in between)
+        self.cached_indices().unwrap_or_else(|| granted(self.try_indices(), self.len()))
     }
 
     /// As [`indices`](MaskValues::indices), with an error where there is no memory for the list.
@@ -164,7 +165,7 @@ impl MaskValues {
     #[inline]
     #[must_use]
     pub fn slices(&self) -> &[(usize, usize)] {
-        granted(self.try_slices(), self.len())
+        self.cached_slices().unwrap_or_else(|| granted(self.try_slices(), self.len()))
     }
 
     /// As [`slices`](MaskValues::slices), with an error where there is no memory for the list.
