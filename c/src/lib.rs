@@ -33,6 +33,7 @@ mod rust {
     pub mod kit;
     pub mod native;
     pub mod proved;
+    pub mod stand_ins;
 }
 
 use core::slice;

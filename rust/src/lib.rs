@@ -21,6 +21,7 @@ mod native;
 mod proved;
 mod row;
 mod selection;
+mod stand_ins;
 mod strings;
 mod walks;
 mod words;

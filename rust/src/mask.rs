@@ -6,7 +6,6 @@ mod cached;
 mod calls;
 mod makers;
 mod operators;
-mod values;
 mod walks;
 
 use crate::kit::{AllocError, TryClone};

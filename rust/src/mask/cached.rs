@@ -2,7 +2,6 @@
 //! is what a proved call makes of the mask's own values (`index_list`, `runs`).
 
 use crate::conditions::need_above;
-use crate::kit::{AllocError, CowSlice};
 use crate::memory::granted;
 use crate::proved::vortex_mask::{AllOr, Mask, MaskError, MaskIter, MaskValues};
 
@@ -152,12 +151,6 @@ impl MaskValues {
     #[inline]
     pub fn try_indices(&self) -> Result<&[usize], MaskError> {
         Ok(self.indices.get_or_make(|| self.index_list())?)
-    }
-
-    // The same for the kernel that takes one list at another. (The source makes the list for that call alone.)
-    #[inline]
-    pub(crate) fn true_indices(&self) -> Result<CowSlice<'_, usize>, AllocError> {
-        self.indices.get_or_make(|| self.index_list()).map(CowSlice::Borrowed)
     }
 
     /// The runs of true values, ascending. A run is its first index and the index past its last, and no two touch. The list

@@ -1,9 +1,20 @@
-//! The steps of walks over values, by hand: `fold`, which `for_each`, `count` and the like go by, reads whole words, and
-//! `next` writes nothing but the place within a word.
+//! What the proved modules take that their sources have marked `by hand`, for the package and for the library for C.
+//!
+//! The steps of walks over values: `fold`, which `for_each`, `count` and the like go by, reads whole words, and `next`
+//! writes nothing but the place within a word. And a list that a kernel takes, which stays with its mask.
 
+use crate::kit::{AllocError, CowSlice};
 use crate::proved::mask_bits::BitIterator;
 use crate::proved::mask_bits::bit_iterator::word_at_hand;
-use crate::proved::vortex_mask::MaskBoolIter;
+use crate::proved::vortex_mask::{MaskBoolIter, MaskValues};
+
+impl MaskValues {
+    // The true indices, for the kernel that takes one list at another. (The source makes the list for that call alone.)
+    #[inline]
+    pub(crate) fn true_indices(&self) -> Result<CowSlice<'_, usize>, AllocError> {
+        self.indices.get_or_make(|| self.index_list()).map(CowSlice::Borrowed)
+    }
+}
 
 impl BitIterator<'_> {
     // Reads the word behind the one at hand, if there is one.
