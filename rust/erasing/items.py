@@ -16,6 +16,8 @@ GENERIC = r"(?:\s*<(?:[^<>]|<[^<>]*>|->)*>)?"
 MARKED = {
     "fn": r"(?!lawful|by PDEP)", "mod": r"visible|replaced by", "impl": r"by hand", "trait": r"lawful", "struct": r"by PDEP",
 }
+# What serves the other crates of the repository alone, which are one package here.
+HIDDEN = "#[doc(hidden)]\n"
 DROP = re.compile(r"\s*\+\s*Drop\b|:\s*Drop\b")
 
 
@@ -397,6 +399,9 @@ impl ::core::error::Error for {name} {{}}
         kind, of = context
         where = function.name if of is None else f"{of}::{function.name}"
         marked, more_names, public = self.marks, "", None
+        if kind == "impl" and HIDDEN in before and function.before.strip() == "pub":
+            self.count("methods for other crates")
+            before, function.before = before.replace(HIDDEN, ""), "pub(crate) "
         if kind != "file":
             self.methods.append((kind, of, function.name))
         if marked.named:

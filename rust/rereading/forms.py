@@ -5,7 +5,9 @@ from rereading.functions import INTO_ITER
 from rereading.lexer import Unexplained, words_of
 from rereading.rules import FEATURES, KEPT, NATIVE
 
-ALWAYS, INLINE, TRACKED = (words_of(f"#[{it}]") for it in ("inline(always)", "inline", "track_caller"))
+ALWAYS, INLINE, TRACKED, HIDDEN = (
+    words_of(f"#[{it}]") for it in ("inline(always)", "inline", "track_caller", "doc(hidden)")
+)
 ON_X86 = words_of('#[cfg(target_arch = "x86_64")]')
 BY_FEATURES = words_of(f"#[target_feature(enable = {FEATURES})]")
 OURS = words_of("pub(crate)")
@@ -21,6 +23,9 @@ class Form:
         self.quality = [*OURS, *item.quality] if self.marks.has("visible") else item.quality
         self.public_name = None
         self.own = item.own_attributes()
+        if kind == "impl" and self.quality == ["pub"] and self.own[: len(HIDDEN)] == HIDDEN:
+            # (what serves the other crates of the repository alone is the package's own)
+            self.own, self.quality = self.own[len(HIDDEN) :], OURS
         self.inline = self.inlined()
 
     def all(self):

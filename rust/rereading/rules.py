@@ -23,6 +23,7 @@ wherever its words stand: the made file has to have the other words there. These
 | the same, where Rust's lists or pointers have that name | that name, and its own for the package's calls | `forms.under_own_name` |
 | a program's calls of methods with that mark | calls by that name | `rewriting.by_public_name` |
 | a method that is marked `by hand` | nothing | `forms.all` |
+| a method that is hidden in documentation | the package's own | `forms.py` |
 | a field that is marked `visible` | what the package sees | `expected.fields` |
 | files of programs | also `#![no_implicit_prelude]` | `package.finished` |
 | calls inside the package with a type that is marked `by PDEP` | also with the mark's, where it is quick | `rewriting.quickest` |

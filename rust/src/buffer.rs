@@ -20,7 +20,8 @@ pub(crate) unsafe fn as_fn<T>(test: impl FnMut(&T) -> bool) -> impl Fn(&T) -> bo
 }
 
 impl BitBuffer {
-    /// The first `len` bits of bytes, without a copy. `From<BitmapBuf>` and `collect` make buffers too.
+    /// The first `len` bits of bytes, which are copied where they are 16 or fewer. `From<BitmapBuf>` and `collect` make buffers
+    /// too.
     ///
     /// # Panics
     /// Where the bytes have fewer bits.

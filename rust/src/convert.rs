@@ -95,7 +95,7 @@ impl From<Bitmap<'_>> for BitmapBuf {
     }
 }
 
-/// The same bytes, where nobody else holds them and value 0 is their first bit. Else it is a copy.
+/// The same bytes, where nobody else holds them, value 0 is their first bit, and they are more than 16. Else it is a copy.
 ///
 /// ```
 /// use row_mask::{BitBuffer, BitmapBuf};
@@ -112,14 +112,14 @@ impl From<BitBuffer> for BitmapBuf {
             return buffer.as_bitmap().to_buf();
         }
         match buffer.into_room() {
-            Ok(room) => BitmapBuf::of_bytes(room.into_vec(), len),
+            Ok(room) => BitmapBuf::of_bytes(room.into_list().into_vec(), len),
             Err(shared) => shared.as_bitmap().to_buf(),
         }
     }
 }
 
-/// The bits of the mask, as of a [`BitBuffer`]: where nobody else holds them, they aren't copied. Those of a mask whose
-/// values are all the same are made.
+/// The bits of the mask, as of a [`BitBuffer`]: where nobody else holds them, and they are more than 128, they aren't copied.
+/// Those of a mask whose values are all the same are made.
 ///
 /// ```
 /// use row_mask::{BitmapBuf, Mask};
@@ -139,7 +139,7 @@ impl From<Mask> for BitmapBuf {
     }
 }
 
-/// The same bytes.
+/// The same bytes, where they are more than 16, and else a copy.
 impl From<BitmapBuf> for BitBuffer {
     #[inline]
     fn from(bitmap: BitmapBuf) -> BitBuffer {
@@ -163,7 +163,8 @@ impl From<Bitmap<'_>> for BitBuffer {
     }
 }
 
-/// The same bytes, but of values that are all the same no bits are kept. No values give `AllFalse(0)`.
+/// The same bytes, where they are more than 16, but of values that are all the same no bits are kept. No values give
+/// `AllFalse(0)`.
 impl From<BitmapBuf> for Mask {
     #[inline]
     fn from(bitmap: BitmapBuf) -> Mask {

@@ -2,8 +2,10 @@
 //! bytes, text and lanes; and `unchecked`, in place of a proved module. It imports nothing else of the package. All of it is
 //! written by hand, and trusted. `README.md` lists all that is.
 
+pub(crate) mod byte_list;
 mod bytes;
 pub(crate) mod cached_list;
+mod few_bytes;
 pub(crate) mod lanes;
 mod list;
 mod shared;

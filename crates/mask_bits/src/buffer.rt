@@ -10,6 +10,7 @@ ghost use Rattle.mask_bits.specs.Text.{buffer_text};
 
 use crate::bit_iterator::BitIterator;
 use crate::bools::put_bools;
+use crate::byte_list::{ByteList, byte_list};
 use crate::chunks::BitChunks;
 use crate::counts::count_bits;
 use crate::words::started_words;
@@ -70,6 +71,17 @@ impl BitBuffer {
             (λ b. b ≡ record { bytes = bytes.items; offset = 0; len = len }) }
         ensures len { IfOk result (λ b. length (values b) ≡ len) }
     {
+        BitBuffer::from_list(byte_list(bytes), len)
+    }
+
+    // The first `len` bits of bytes that were made for them.
+    #[doc(hidden)]
+    pub fn from_list(bytes: ByteList, len: usize) -> Result<BitBuffer, AllocError>
+        requires { len ≤ 8 * vec_len bytes }
+        ensures buffer { IfOk result
+            (λ b. b ≡ record { bytes = bytes.items; offset = 0; len = len }) }
+        ensures len { IfOk result (λ b. length (values b) ≡ len) }
+    {
         Ok(BitBuffer::new(Bytes::from_vec(bytes)?, len))
     }
 
@@ -80,7 +92,7 @@ impl BitBuffer {
         ensures { IfOk result (λ b. values b ≡ repeated len true) }
     {
         let ones = vec![in alloc; 0xFFu8; len.div_ceil(8)]?;
-        BitBuffer::from_vec(ones, len)
+        BitBuffer::from_list(ones, len)
     }
 
     /// `len` false values.
@@ -89,7 +101,7 @@ impl BitBuffer {
     pub fn new_unset(alloc: Global, len: usize) -> Result<BitBuffer, AllocError>
         ensures { IfOk result (λ b. values b ≡ repeated len false) }
     {
-        BitBuffer::from_vec(zeroed(alloc, len)?, len)
+        BitBuffer::from_list(zeroed(alloc, len)?, len)
     }
 
     /// The list of `len` values that is true exactly at `indices`, in any order and with repeats.
@@ -107,7 +119,7 @@ impl BitBuffer {
         for index in indices {
             set_bit(&mut bytes, *index);
         }
-        BitBuffer::from_vec(bytes, len)
+        BitBuffer::from_list(bytes, len)
     }
 
     /// The values that an iterator yields, in their order.
@@ -133,7 +145,7 @@ impl BitBuffer {
     {
         let mut bytes = vec![in alloc; 0u8; 8 * started_words(bools.len())]?;
         put_bools(&mut bytes, bools);
-        BitBuffer::from_vec(bytes, bools.len())
+        BitBuffer::from_list(bytes, bools.len())
     }
 
     /// A buffer of the same backing bytes, at the same offset and length.
@@ -316,7 +328,7 @@ impl fmt::Debug for BitBuffer {
 }
 
 // Bytes for `len` bits, all clear.
-fn zeroed(alloc: Global, len: usize) -> Result<Vec<u8>, AllocError>
+fn zeroed(alloc: Global, len: usize) -> Result<ByteList, AllocError>
     ensures covered { IfOk result (λ bytes. len ≤ 8 * vec_len bytes) }
     ensures clear { IfOk result (λ bytes. (p : ℕ) → backing_bit bytes.items p ≡ false) }
 {

@@ -7,6 +7,7 @@ ghost use Rattle.mask_bits.specs.Positions.{repeated};
 ghost use Rattle.mask_bits.specs.Words.{word_bits};
 
 use crate::buffer::BitBuffer;
+use crate::byte_list::ByteList;
 use crate::words::started_words;
 use crate::write_bits::{clear_bit, put_bits, put_same, put_word, set_bit};
 use bytes::Bytes;
@@ -19,7 +20,7 @@ use std::marker::Model;
 /// stays as it was.
 #[derive(Drop)]
 pub struct BitBufferMut {
-    bytes: Vec<u8>,
+    bytes: ByteList,
     len: usize,
 }
 
@@ -156,7 +157,7 @@ impl BitBufferMut {
 
 // Makes room for `bits` bits, where there isn't; new bits are clear.
 #[inline]
-fn make_room(bytes: &mut Vec<u8>, bits: usize) -> Result<(), AllocError>
+fn make_room(bytes: &mut ByteList, bits: usize) -> Result<(), AllocError>
     requires { vec_len bytes.old % 8 ≡ 0 }
     ensures stays { (p : ℕ) → backing_bit bytes.new.items p ≡ backing_bit bytes.old.items p }
     ensures whole { vec_len bytes.new % 8 ≡ 0 }
@@ -172,7 +173,7 @@ fn make_room(bytes: &mut Vec<u8>, bits: usize) -> Result<(), AllocError>
 // At least doubled, so that words pushed one by one grow it seldom.
 #[cold]
 #[inline(never)]
-fn grow(bytes: &mut Vec<u8>, bits: usize) -> Result<(), AllocError>
+fn grow(bytes: &mut ByteList, bits: usize) -> Result<(), AllocError>
     requires { vec_len bytes.old % 8 ≡ 0 }
     ensures stays { (p : ℕ) → backing_bit bytes.new.items p ≡ backing_bit bytes.old.items p }
     ensures whole { vec_len bytes.new % 8 ≡ 0 }

@@ -36,7 +36,7 @@ impl BitBuffer {
     {
         let mut bytes = vec![in alloc; 0u8; 8 * started_words(rows.len())]?;
         put_answers(&mut bytes, rows, &test);
-        BitBuffer::from_vec(bytes, rows.len())
+        BitBuffer::from_list(bytes, rows.len())
     }
 }
 

@@ -11,6 +11,9 @@ pub mod blocks;
 pub mod bools;
 mod buffer;
 mod buffer_mut;
+// rust: replaced by kit::byte_list
+#[doc(hidden)]
+pub mod byte_list;
 #[doc(hidden)]
 pub mod byte_places;
 #[doc(hidden)]

@@ -298,7 +298,7 @@ impl Mask {
     {
         match self {
             Mask::AllTrue(_) => Ok(Vec::from_slice(alloc, indices)?),
-            Mask::AllFalse(_) => Ok(vec![in alloc; 0; indices.len()]?),
+            Mask::AllFalse(_) => Ok(vec![in alloc; 0usize; indices.len()]?),
             Mask::Values(values) => Ok(counts_below(alloc, values.bit_buffer(), indices)?),
         }
     }

@@ -1,28 +1,42 @@
 //! Bytes that several buffers share.
 
+use super::byte_list::ByteList;
+use super::few_bytes::{FEW, FewBytes};
 use super::{AllocError, TryClone};
 use alloc::boxed::Box;
 use alloc::vec::Vec;
 use core::fmt;
 use core::hash::{Hash, Hasher};
-use core::mem::ManuallyDrop;
+use core::mem::{self, ManuallyDrop};
 use core::ops::Deref;
 use core::ptr::NonNull;
 use core::slice;
 use core::sync::atomic::{AtomicUsize, Ordering};
 
-/// Bytes that never change while they are shared. A clone shares them.
+/// Bytes that never change while they are shared. A clone shares them, but for few: up to 16 each holder has itself.
 pub struct Bytes {
-    // the parts of a list: each holder has them, and only the last one makes the list of them again, which has one owner
-    first: NonNull<u8>,
     len: usize,
+    held: Held,
+}
+
+/// The bytes themselves where they are few, and else where they lie. How many there are says which of both it is.
+#[derive(Clone, Copy)]
+union Held {
+    few: [u8; FEW],
+    shared: Shared,
+}
+
+/// The parts of a list of more bytes. Each holder has them, and only the last one makes the list of them again, which has
+/// one owner.
+#[derive(Clone, Copy)]
+struct Shared {
+    first: NonNull<u8>,
     capacity: usize,
-    // how many holders there are: behind the bytes, where the list has room for that, and else in memory of its own (and
-    // nowhere, where there are no bytes)
+    // how many holders there are: behind the bytes, where the list has room for that, and else in memory of its own
     holders: NonNull<AtomicUsize>,
 }
 
-// SAFETY: the bytes are only read while there are several holders, whose number is atomic.
+// SAFETY: bytes that are shared are only read while there are several holders, whose number is atomic.
 unsafe impl Send for Bytes {}
 // SAFETY: as above.
 unsafe impl Sync for Bytes {}
@@ -46,64 +60,76 @@ fn place_behind(list: &mut Vec<u8>) -> Option<NonNull<AtomicUsize>> {
     Some(NonNull::from(place).cast())
 }
 
-/// Bytes that nobody else holds, from one of them on.
-#[derive(Debug)]
-pub struct BytesMut {
-    bytes: Vec<u8>,
-    first: usize,
-}
-
 impl Bytes {
     /// No bytes.
     #[must_use]
     #[inline]
     pub fn new() -> Bytes {
-        let (first, holders) = (NonNull::dangling(), NonNull::dangling());
-        Bytes { first, len: 0, capacity: 0, holders }
+        Bytes { len: 0, held: Held { few: [0; FEW] } }
     }
 
-    /// The bytes of a list, which are not copied.
+    /// The bytes of a list, which aren't copied where they are more than 16.
     ///
     /// # Errors
     /// None: Rust's `Box` aborts where memory is refused for the number of holders.
     #[inline]
-    pub fn from_vec(bytes: Vec<u8>) -> Result<Bytes, AllocError> {
-        Ok(Bytes::from(bytes))
+    pub fn from_vec(bytes: impl Into<ByteList>) -> Result<Bytes, AllocError> {
+        Ok(Bytes::from(bytes.into()))
     }
 
     /// All bytes.
     #[must_use]
     #[inline]
     pub fn as_slice(&self) -> &[u8] {
+        // (both are pointers, so that the compiler needs no branch)
+        let first = match self.shared() {
+            Some(shared) => shared.first.as_ptr().cast_const(),
+            // SAFETY: they are few.
+            None => unsafe { self.held.few.as_ptr() },
+        };
         // SAFETY: while there is a holder, so many bytes lie there, and nobody changes them or lets go of them.
-        unsafe { slice::from_raw_parts(self.first.as_ptr(), self.len) }
+        unsafe { slice::from_raw_parts(first, self.len) }
+    }
+
+    // Where more than few bytes lie.
+    #[inline]
+    fn shared(&self) -> Option<&Shared> {
+        if self.len <= FEW {
+            return None;
+        }
+        // SAFETY: they are more than few.
+        Some(unsafe { &self.held.shared })
     }
 
     #[inline]
     pub(crate) fn try_into_mut(self) -> Result<BytesMut, Bytes> {
-        // (where there is one, nobody can add another)
-        if !self.is_empty() && self.holders().load(Ordering::Acquire) != 1 {
-            return Err(self);
-        }
-        // SAFETY: this is the only holder, and it isn't dropped.
-        let bytes = unsafe { ManuallyDrop::new(self).take_list() };
+        let bytes = match self.shared() {
+            // SAFETY: they are few.
+            None => ByteList::Few(FewBytes::first(unsafe { self.held.few }, self.len)),
+            // (where there is one, nobody can add another)
+            Some(shared) if shared.holders().load(Ordering::Acquire) != 1 => return Err(self),
+            // SAFETY: this is the only holder, and it isn't dropped.
+            Some(shared) => ByteList::Many(unsafe { shared.take_list(self.len) }),
+        };
+        mem::forget(self);
         Ok(BytesMut { bytes, first: 0 })
     }
+}
 
-    // The number of holders, of bytes that are some.
+impl Shared {
     #[inline]
     fn holders(&self) -> &AtomicUsize {
-        // SAFETY: of bytes that are some, it is there as long as a holder.
+        // SAFETY: it is there as long as a holder.
         unsafe { self.holders.as_ref() }
     }
 
-    // Takes the list, and lets go of the number of holders.
-    // SAFETY of a call: there is no other holder, and this one isn't used any more.
+    // Takes the list of so many bytes, and lets go of the number of holders.
+    // SAFETY of a call: so many they are, there is no other holder, and this one isn't used any more.
     #[inline]
-    unsafe fn take_list(&mut self) -> Vec<u8> {
+    unsafe fn take_list(&self, len: usize) -> Vec<u8> {
         // SAFETY: these are the parts of a list that nobody has, and nobody makes it again, as is asked.
-        let mut list = unsafe { Vec::from_raw_parts(self.first.as_ptr(), self.len, self.capacity) };
-        if !list.is_empty() && place_behind(&mut list).is_none() {
+        let mut list = unsafe { Vec::from_raw_parts(self.first.as_ptr(), len, self.capacity) };
+        if place_behind(&mut list).is_none() {
             // SAFETY: there was no place for it either when it was made.
             drop(unsafe { Box::from_raw(self.holders.as_ptr()) });
         }
@@ -111,22 +137,14 @@ impl Bytes {
     }
 }
 
-impl Default for Bytes {
-    #[inline]
-    fn default() -> Bytes {
-        Bytes::new()
-    }
-}
-
 impl Clone for Bytes {
     #[inline]
     fn clone(&self) -> Bytes {
-        if self.is_empty() {
-            return Bytes::new();
+        if let Some(shared) = self.shared() {
+            let before = shared.holders().fetch_add(1, Ordering::Relaxed);
+            // (as `Arc` has it: only a program that forgets clones can come so far)
+            assert!(before < usize::MAX / 2, "too many holders");
         }
-        let before = self.holders().fetch_add(1, Ordering::Relaxed);
-        // (as `Arc` has it: only a program that forgets clones can come so far)
-        assert!(before < usize::MAX / 2, "too many holders");
         Bytes { ..*self }
     }
 }
@@ -134,15 +152,26 @@ impl Clone for Bytes {
 impl Drop for Bytes {
     #[inline]
     fn drop(&mut self) {
-        if self.is_empty() {
-            return;
-        }
+        let Some(shared) = self.shared() else { return };
         // (where there is one, nobody can add another)
-        let holders = self.holders();
+        let holders = shared.holders();
         if holders.load(Ordering::Acquire) == 1 || holders.fetch_sub(1, Ordering::AcqRel) == 1 {
             // SAFETY: this was the last holder.
-            drop(unsafe { self.take_list() });
+            drop(unsafe { shared.take_list(self.len) });
         }
+    }
+}
+
+/// Bytes that nobody else holds, from one of them on.
+pub struct BytesMut {
+    bytes: ByteList,
+    first: usize,
+}
+
+impl Default for Bytes {
+    #[inline]
+    fn default() -> Bytes {
+        Bytes::new()
     }
 }
 
@@ -160,14 +189,32 @@ impl Hash for Bytes {
     }
 }
 
+impl From<FewBytes> for Bytes {
+    #[inline]
+    fn from(bytes: FewBytes) -> Bytes {
+        Bytes { len: bytes.len(), held: Held { few: bytes.all() } }
+    }
+}
+
+impl From<ByteList> for Bytes {
+    #[inline]
+    fn from(bytes: ByteList) -> Bytes {
+        match bytes {
+            ByteList::Few(few) => few.into(),
+            ByteList::Many(list) => list.into(),
+        }
+    }
+}
+
+/// The bytes, which aren't copied where they are more than 16.
 impl From<Vec<u8>> for Bytes {
     #[inline]
-    fn from(mut bytes: Vec<u8>) -> Bytes {
-        if bytes.is_empty() {
-            return Bytes::new();
+    fn from(mut list: Vec<u8>) -> Bytes {
+        if let Some(few) = FewBytes::of(&list) {
+            return few.into();
         }
         let one = AtomicUsize::new(1);
-        let holders = match place_behind(&mut bytes) {
+        let holders = match place_behind(&mut list) {
             Some(place) => {
                 // SAFETY: it is room of the list, for just that.
                 unsafe { place.write(one) };
@@ -175,10 +222,13 @@ impl From<Vec<u8>> for Bytes {
             }
             None => NonNull::from(Box::leak(Box::new(one))),
         };
-        let mut list = ManuallyDrop::new(bytes);
+        let mut list = ManuallyDrop::new(list);
         // SAFETY: no list lies at null. (A pointer to the slice would be one to no room behind it.)
         let first = unsafe { NonNull::new_unchecked(list.as_mut_ptr()) };
-        Bytes { first, len: list.len(), capacity: list.capacity(), holders }
+        Bytes {
+            len: list.len(),
+            held: Held { shared: Shared { first, capacity: list.capacity(), holders } },
+        }
     }
 }
 
@@ -186,11 +236,11 @@ impl From<Vec<u8>> for Bytes {
 impl From<&[u8]> for Bytes {
     #[inline]
     fn from(bytes: &[u8]) -> Bytes {
-        Bytes::from(bytes.to_vec())
+        FewBytes::of(bytes).map_or_else(|| Bytes::from(bytes.to_vec()), Bytes::from)
     }
 }
 
-/// The bytes, which are not copied.
+/// The bytes, which aren't copied where they are more than 16.
 impl From<Box<[u8]>> for Bytes {
     #[inline]
     fn from(bytes: Box<[u8]>) -> Bytes {
@@ -248,14 +298,19 @@ impl BytesMut {
     // What stands before the first is moved away: a buffer begins at the bytes' own first one.
     #[inline]
     pub(crate) fn freeze(self) -> Result<Bytes, AllocError> {
-        Bytes::from_vec(self.into_vec())
+        Bytes::from_vec(self.into_list())
     }
 
     // The list of them, from which what stands before the first is moved away.
     #[inline]
-    pub(crate) fn into_vec(mut self) -> Vec<u8> {
-        self.bytes.drain(..self.first);
-        self.bytes
+    pub(crate) fn into_list(self) -> ByteList {
+        match self.bytes {
+            ByteList::Few(few) => ByteList::Few(few.from(self.first)),
+            ByteList::Many(mut list) => {
+                list.drain(..self.first);
+                ByteList::Many(list)
+            }
+        }
     }
 }
 
@@ -270,25 +325,50 @@ impl Deref for BytesMut {
 
 #[cfg(test)]
 mod tests {
-    use super::Bytes;
+    use super::{Bytes, FEW};
     use alloc::vec::Vec;
 
-    /// Clones lie where the bytes do, and only the last holder gets them to change.
+    /// Clones lie where the bytes do, and only the last holder gets them to change. Few bytes each holder has itself.
     #[test]
     fn the_last_holder_has_them_alone() {
-        let (list, empty) = (Vec::from([7, 8, 9]), Bytes::new());
-        let first = list.as_ptr();
-        let bytes = Bytes::from(list);
-        let (one, other) = (bytes.clone(), bytes.clone().clone());
-        assert_eq!((&one, one.as_ptr(), other.as_ptr()), (&bytes, first, first));
-        drop(one);
-        let bytes = bytes.try_into_mut().expect_err("another holds them");
-        drop(other);
-        let mut own = bytes.try_into_mut().expect("nobody else holds them");
-        own.advance(1);
-        own.as_mut_slice()[0] = 1;
-        assert_eq!(*own.freeze().unwrap(), [1, 9]);
-        assert_eq!((empty.clone(), empty.clone().len()), (empty, 0));
+        for count in 0..=3 * FEW {
+            let list: Vec<u8> = (7..).take(count).collect();
+            let bytes = Bytes::from(list.clone());
+            let (one, other) = (bytes.clone(), bytes.clone().clone());
+            assert_eq!((&*one, &one, &other), (&*list, &bytes, &bytes));
+            assert_eq!(one.as_ptr() == other.as_ptr(), count > FEW);
+            drop(one);
+            let mut own = match bytes.try_into_mut() {
+                Ok(own) => own,
+                Err(shared) => {
+                    assert!(count > FEW);
+                    drop(other.clone());
+                    drop(other);
+                    shared.try_into_mut().expect("nobody else holds them")
+                }
+            };
+            for first in 1..=count.min(2) {
+                own.advance(1);
+                assert_eq!((own.len(), own.first()), (count - first, list.get(first)));
+            }
+            own.as_mut_slice().fill(1);
+            assert_eq!(*own.freeze().unwrap(), *alloc::vec![1; count - count.min(2)]);
+        }
+        assert_eq!((Bytes::new().clone(), Bytes::new().len()), (Bytes::default(), 0));
+    }
+
+    /// A list that has the bytes isn't copied, with room behind them and without.
+    #[test]
+    fn lists_stay_where_they_are() {
+        for room in FEW + 1..4 * FEW {
+            let mut list = Vec::with_capacity(room);
+            list.extend(0..=16);
+            let first = list.as_ptr();
+            let bytes = Bytes::from(list);
+            assert_eq!(bytes.as_ptr(), first);
+            let list = bytes.try_into_mut().ok().map(|own| own.into_list().into_vec());
+            assert_eq!(list.map(|it| (it.as_ptr(), it.len())), Some((first, 17)));
+        }
     }
 
     /// Threads that clone at once, before anybody did, agree on one count.

@@ -55,18 +55,73 @@ impl<T: TryClone> TryClone for Cached<T> {
 }
 
 #[cfg(feature = "std")]
-use std::sync::OnceLock as Once;
-
-/// What was set first: this, or what stood there before.
-#[cfg(feature = "std")]
-#[inline]
-#[allow(clippy::unnecessary_wraps, reason = "without `std` it takes memory")]
-fn set_or_get<T>(once: &Once<T>, value: T) -> Result<&T, AllocError> {
-    Ok(once.get_or_init(|| value))
-}
-
+use locked::{Once, set_or_get};
 #[cfg(not(feature = "std"))]
 use race::{Once, set_or_get};
+
+/// With `std` the first who sets a value has a lock for it. (`OnceLock` isn't made with a value: it is set as if others might
+/// set it too, which takes as long as a request for memory.)
+#[cfg(feature = "std")]
+mod locked {
+    use super::AllocError;
+    use core::cell::UnsafeCell;
+    use core::panic::RefUnwindSafe;
+    use core::sync::atomic::{AtomicBool, Ordering};
+    use std::sync::{Mutex, PoisonError};
+
+    pub(super) struct Once<T> {
+        // Written once, by the holder of `SETTING`, before `is_set` says that it is there.
+        value: UnsafeCell<Option<T>>,
+        is_set: AtomicBool,
+    }
+
+    // One for all: it is held while a value is moved, and not while it is made.
+    static SETTING: Mutex<()> = Mutex::new(());
+
+    // SAFETY: others see the value only when it doesn't change any more. It may come from one thread and be dropped by another.
+    unsafe impl<T: Send + Sync> Sync for Once<T> {}
+    // (it is set, or it isn't: nobody sees what is between)
+    impl<T: RefUnwindSafe> RefUnwindSafe for Once<T> {}
+
+    impl<T> Once<T> {
+        pub(super) const fn new() -> Once<T> {
+            Once { value: UnsafeCell::new(None), is_set: AtomicBool::new(false) }
+        }
+
+        #[inline]
+        pub(super) fn get(&self) -> Option<&T> {
+            if !self.is_set.load(Ordering::Acquire) {
+                return None;
+            }
+            // SAFETY: it was set before that was said, and changes and drops only with `self`.
+            let value = unsafe { &*self.value.get() };
+            // SAFETY: as above.
+            Some(unsafe { value.as_ref().unwrap_unchecked() })
+        }
+    }
+
+    impl<T> From<T> for Once<T> {
+        #[inline]
+        fn from(value: T) -> Once<T> {
+            Once { value: UnsafeCell::new(Some(value)), is_set: AtomicBool::new(true) }
+        }
+    }
+
+    /// What was set first: this, or what stood there before.
+    #[allow(clippy::unnecessary_wraps, reason = "without `std` it takes memory")]
+    pub(super) fn set_or_get<T: Send>(once: &Once<T>, value: T) -> Result<&T, AllocError> {
+        let mut own = Some(value);
+        let setting = SETTING.lock().unwrap_or_else(PoisonError::into_inner);
+        if !once.is_set.load(Ordering::Relaxed) {
+            // SAFETY: nobody else sets it meanwhile, and nobody sees it before it is said to be there.
+            unsafe { *once.value.get() = own.take() };
+            once.is_set.store(true, Ordering::Release);
+        }
+        drop(setting);
+        // SAFETY: it was set above, or before that.
+        Ok(unsafe { once.get().unwrap_unchecked() })
+    }
+}
 
 /// Without `std` there is no lock to wait at. So a value that is set behind a `&` has memory of its own, and the first
 /// pointer to such stays.

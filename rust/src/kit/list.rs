@@ -1,7 +1,7 @@
 //! Lists whose growth is refused by an error.
 
 use super::AllocError;
-use super::bytes::room_to_share;
+use super::byte_list::ByteList;
 use alloc::alloc::{Layout, alloc, alloc_zeroed, realloc};
 use alloc::vec::Vec;
 use core::mem::{self, ManuallyDrop, MaybeUninit};
@@ -142,27 +142,38 @@ impl<T> Reserved<T> for Vec<T> {
 /// # Errors
 /// [`AllocError`] where memory is refused.
 #[inline]
-pub fn filled<T: Fill>(item: T, count: usize) -> Result<Vec<T>, AllocError> {
+pub fn filled<T: Fill>(item: T, count: usize) -> Result<T::List, AllocError> {
     item.filled(count)
 }
 
 /// Items that lists are filled with.
 pub trait Fill: Copy {
+    /// A list of them.
+    type List;
+
     /// A list of so many of it.
     ///
     /// # Errors
     /// [`AllocError`] where memory is refused.
-    fn filled(self, count: usize) -> Result<Vec<Self>, AllocError> {
-        let mut list = Vec::with_room(count)?;
-        list.resize(count, self);
-        Ok(list)
-    }
+    fn filled(self, count: usize) -> Result<Self::List, AllocError>;
 }
 
 impl Fill for u8 {
+    type List = ByteList;
+
     #[inline]
-    fn filled(self, count: usize) -> Result<Vec<u8>, AllocError> {
-        filled_within(self, count, room_to_share(count))
+    fn filled(self, count: usize) -> Result<ByteList, AllocError> {
+        ByteList::filled(self, count)
+    }
+}
+
+impl Fill for usize {
+    type List = Vec<usize>;
+
+    fn filled(self, count: usize) -> Result<Vec<usize>, AllocError> {
+        let mut list = Vec::with_room(count)?;
+        list.resize(count, self);
+        Ok(list)
     }
 }
 
@@ -176,7 +187,7 @@ pub(crate) fn zeros(count: usize) -> Result<Vec<u8>, AllocError> {
 
 /// So many bytes that are the same, in a list with room for so many.
 #[inline]
-fn filled_within(byte: u8, count: usize, room: usize) -> Result<Vec<u8>, AllocError> {
+pub(crate) fn filled_within(byte: u8, count: usize, room: usize) -> Result<Vec<u8>, AllocError> {
     if byte == 0 && count > FEW {
         return zeroed(count, room);
     }
@@ -208,11 +219,6 @@ fn fill_ends<const N: usize>(places: &mut [MaybeUninit<u8>], byte: u8) {
 
 // So few bytes an allocator has at hand, where it may look for those that are 0.
 const FEW: usize = 1024;
-
-impl Fill for usize {}
-impl Fill for u32 {}
-impl Fill for u64 {}
-impl Fill for bool {}
 
 fn zeroed(count: usize, room: usize) -> Result<Vec<u8>, AllocError> {
     let layout = Layout::array::<u8>(room).map_err(|_| AllocError)?;

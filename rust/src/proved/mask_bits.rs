@@ -12,6 +12,8 @@ pub mod bools;
 mod buffer;
 mod buffer_mut;
 #[doc(hidden)]
+pub(crate) use crate::kit::byte_list;
+#[doc(hidden)]
 pub mod byte_places;
 #[doc(hidden)]
 pub mod choose_values;

@@ -78,10 +78,11 @@ fn each_of_each() {
     }
 }
 
-/// The bytes of the only holder are given from one to the other, and back.
+/// The bytes of the only holder are given from one to the other, and back, if they are more than 16.
 #[test]
 fn bytes_of_one_holder_are_not_copied() {
-    for list in lists().iter().filter(|it| it.contains(&true) && it.contains(&false)) {
+    let many: Vec<_> = lists().into_iter().filter(|it| it.len() > 129).collect();
+    for list in many.iter().filter(|it| it.contains(&true) && it.contains(&false)) {
         let bitmap = BitmapBuf::from(&list[..]);
         let place = bitmap.as_bytes().as_ptr();
         let buffer = BitBuffer::from(bitmap);

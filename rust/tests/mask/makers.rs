@@ -83,19 +83,22 @@ fn builders_grow() {
 
 #[test]
 fn of_bytes() {
-    let bytes = [0xB4, 0xFF];
-    let boxed: Box<[u8]> = Box::from(bytes);
-    let place = boxed.as_ptr();
-    let made = [
-        Bytes::from(&bytes[..]),
-        Bytes::from(boxed),
-        Bytes::from_iter(bytes),
-        Bytes::from(bytes.to_vec()),
-    ];
-    assert_eq!(made[1].as_ptr(), place);
-    for it in made {
-        assert_eq!(it.as_slice(), bytes);
-        assert_eq!(format!("{:?}", BitBuffer::new(it, 10)), "BitBuffer(0010110111)");
+    for count in [2, 16, 17, 40] {
+        let bytes = [&[0xB4][..], &vec![0xFF; count - 1]].concat();
+        let boxed: Box<[u8]> = Box::from(&bytes[..]);
+        let place = boxed.as_ptr();
+        let made = [
+            Bytes::from(&bytes[..]),
+            Bytes::from(boxed),
+            bytes.iter().copied().collect(),
+            Bytes::from(bytes.clone()),
+            Bytes::from_vec(bytes.clone()).unwrap(),
+        ];
+        assert_eq!(made[1].as_ptr() == place, count > 16);
+        for it in made {
+            assert_eq!(it.as_slice(), bytes);
+            assert_eq!(format!("{:?}", BitBuffer::new(it, 10)), "BitBuffer(0010110111)");
+        }
     }
 }
 

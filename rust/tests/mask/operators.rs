@@ -85,12 +85,14 @@ fn same(a: &Mask, b: &Mask) {
     assert!(a == b && discriminant(a) == discriminant(b) && caches(a) == caches(b), "{a} {b}");
 }
 
-/// A result is written into the bytes of an operand that nobody else holds, and not into shared ones.
+/// A result is written into the bytes of an operand that nobody else holds, and not into shared ones. (Up to 128 values
+/// each holder has itself.)
 #[test]
 fn in_place() {
-    let [ones, rows] = [vec![true; 4], vec![true, false, true, true]].map(BitBuffer::from);
+    let repeated = |values: [bool; 4]| BitBuffer::from(values.repeat(40));
+    let [ones, rows] = [[true; 4], [true, false, true, true]].map(repeated);
     let bytes = |buffer: &BitBuffer| buffer.inner().as_ptr();
-    let (own, shared) = (BitBuffer::from(vec![true, true, false, true]), rows.clone());
+    let (own, shared) = (repeated([true, true, false, true]), rows.clone());
     assert_eq!(bytes(&shared), bytes(&rows));
     let place = bytes(&own);
     let mut made = !((own & &rows) | &ones) ^ &rows;
@@ -99,9 +101,9 @@ fn in_place() {
     made ^= &ones;
     assert_eq!(bytes(&made), place);
     let mut mask = Mask::from(made);
-    mask ^= &Mask::from(BitBuffer::from(vec![true, true, false, false]));
+    mask ^= &Mask::from(repeated([true, true, false, false]));
     let values = mask.values().expect("some are true, and some not");
-    assert_eq!((bytes(values.bit_buffer()), mask.to_string().as_str()), (place, "1000"));
+    assert_eq!((bytes(values.bit_buffer()), mask.to_string()), (place, "1000".repeat(40)));
     let made = shared & &ones;
     assert_ne!(bytes(&made), bytes(&rows));
     assert_eq!(made, rows);

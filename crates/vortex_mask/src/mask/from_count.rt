@@ -12,6 +12,7 @@ ghost use Rattle.vortex_mask.specs.MaskValues.{AreOf, no_caches};
 
 use crate::mask::{Mask, MaskError, MaskValues};
 use mask_bits::BitBuffer;
+use mask_bits::byte_list::ByteList;
 use std::alloc::Global;
 use std::rc::Rc;
 
@@ -89,7 +90,7 @@ impl Mask {
     #[tactic(auto, using(crate::proofs::Masks::MaskLemmas::bitmap_facts))]
     pub(crate) fn of_words(
         alloc: Global,
-        words: Vec<u8>,
+        words: ByteList,
         len: usize,
         true_count: usize,
     ) -> Result<Mask, MaskError>
@@ -103,7 +104,7 @@ impl Mask {
         if let Some(mask) = Mask::of_one_value(len, true_count) {
             return Ok(mask);
         }
-        let buffer = BitBuffer::from_vec(words, len)?;
+        let buffer = BitBuffer::from_list(words, len)?;
         Mask::of_mixed(alloc, buffer, true_count, None, None)
     }
 

@@ -124,5 +124,5 @@ fn buffer_of(alloc: Global, len: usize, ranges: &[(usize, usize)]) -> Result<Bit
 {
     let mut bytes = vec![in alloc; 0u8; 8 * started_words(len)]?;
     set_ranges(&mut bytes, ranges);
-    BitBuffer::from_vec(bytes, len)
+    BitBuffer::from_list(bytes, len)
 }

@@ -232,7 +232,7 @@ fn combined_buffer<C: BitOp>(a: &BitBuffer, b: &BitBuffer) -> Result<BitBuffer, 
     let len = a.len();
     let mut out = crate::kit::filled(0u8, 8 * started_words(len))?;
     combine::<C>(a.bits(), a.offset(), b.bits(), b.offset(), len, &mut out);
-    BitBuffer::from_vec_proved(out, len)
+    BitBuffer::from_list(out, len)
 }
 
 // The same in the first one's bytes, where they are its own.

@@ -6,6 +6,7 @@ use crate::kit::prelude::*;
 use crate::kit::{Bytes, BytesMut};
 use crate::proved::mask_bits::bit_iterator::BitIterator;
 use crate::proved::mask_bits::bools::put_bools;
+use crate::proved::mask_bits::byte_list::{ByteList, byte_list};
 use crate::proved::mask_bits::chunks::BitChunks;
 use crate::proved::mask_bits::counts::count_bits;
 use crate::proved::mask_bits::words::started_words;
@@ -107,6 +108,12 @@ impl BitBuffer {
 
     #[inline]
     pub(crate) fn from_vec_proved(bytes: Vec<u8>, len: usize) -> Result<BitBuffer, AllocError> {
+        BitBuffer::from_list(byte_list(bytes), len)
+    }
+
+    // The first `len` bits of bytes that were made for them.
+    #[inline(always)]
+    pub(crate) fn from_list(bytes: ByteList, len: usize) -> Result<BitBuffer, AllocError> {
         Ok(BitBuffer::new_proved(Bytes::from_vec(bytes)?, len))
     }
 
@@ -125,7 +132,7 @@ impl BitBuffer {
     #[inline]
     pub(crate) fn new_set_proved(len: usize) -> Result<BitBuffer, AllocError> {
         let ones = crate::kit::filled(0xFFu8, len.div_ceil(8))?;
-        BitBuffer::from_vec_proved(ones, len)
+        BitBuffer::from_list(ones, len)
     }
 
     /// `len` false values.
@@ -142,7 +149,7 @@ impl BitBuffer {
 
     #[inline]
     pub(crate) fn new_unset_proved(len: usize) -> Result<BitBuffer, AllocError> {
-        BitBuffer::from_vec_proved(zeroed(len)?, len)
+        BitBuffer::from_list(zeroed(len)?, len)
     }
 
     /// The list of `len` values that is true exactly at `indices`, in any order and with repeats.
@@ -176,7 +183,7 @@ impl BitBuffer {
         for index in indices {
             set_bit(&mut bytes, *index);
         }
-        BitBuffer::from_vec_proved(bytes, len)
+        BitBuffer::from_list(bytes, len)
     }
 
     /// The values that an iterator yields, in their order.
@@ -211,7 +218,7 @@ impl BitBuffer {
     fn from_slice(bools: &[bool]) -> Result<BitBuffer, AllocError> {
         let mut bytes = crate::kit::filled(0u8, 8 * started_words(bools.len()))?;
         put_bools(&mut bytes, bools);
-        BitBuffer::from_vec_proved(bytes, bools.len())
+        BitBuffer::from_list(bytes, bools.len())
     }
 
     /// A buffer of the same backing bytes, at the same offset and length.
@@ -493,6 +500,6 @@ impl BitBuffer {
 
 // Bytes for `len` bits, all clear.
 #[inline]
-fn zeroed(len: usize) -> Result<Vec<u8>, AllocError> {
+fn zeroed(len: usize) -> Result<ByteList, AllocError> {
     crate::kit::filled(0u8, len.div_ceil(8))
 }

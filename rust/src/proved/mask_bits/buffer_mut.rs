@@ -5,6 +5,7 @@ use crate::kit::AllocError;
 use crate::kit::Bytes;
 use crate::kit::prelude::*;
 use crate::proved::mask_bits::buffer::BitBuffer;
+use crate::proved::mask_bits::byte_list::ByteList;
 use crate::proved::mask_bits::words::started_words;
 use crate::proved::mask_bits::write_bits::{clear_bit, put_bits, put_same, put_word, set_bit};
 
@@ -13,7 +14,7 @@ use crate::proved::mask_bits::write_bits::{clear_bit, put_bits, put_same, put_wo
 /// Each append adds its values behind those that are there. Where an append is refused, the list
 /// stays as it was.
 pub struct BitBufferMut {
-    bytes: Vec<u8>,
+    bytes: ByteList,
     len: usize,
 }
 
@@ -257,7 +258,7 @@ impl BitBufferMut {
 
 // Makes room for `bits` bits, where there isn't; new bits are clear.
 #[inline]
-fn make_room(bytes: &mut Vec<u8>, bits: usize) -> Result<(), AllocError> {
+fn make_room(bytes: &mut ByteList, bits: usize) -> Result<(), AllocError> {
     if bytes.len() < bits.div_ceil(8) {
         grow(bytes, bits)?;
     }
@@ -267,7 +268,7 @@ fn make_room(bytes: &mut Vec<u8>, bits: usize) -> Result<(), AllocError> {
 // At least doubled, so that words pushed one by one grow it seldom.
 #[cold]
 #[inline(never)]
-fn grow(bytes: &mut Vec<u8>, bits: usize) -> Result<(), AllocError> {
+fn grow(bytes: &mut ByteList, bits: usize) -> Result<(), AllocError> {
     let words = started_words(bits).max(bytes.len().saturating_mul(2) / 8);
     bytes.try_resize(8 * words, 0)
 }

@@ -55,7 +55,7 @@ impl BitBuffer {
     fn from_rows_any<T, F: Fn(&T) -> bool>(rows: &[T], test: F) -> Result<BitBuffer, AllocError> {
         let mut bytes = crate::kit::filled(0u8, 8 * started_words(rows.len()))?;
         put_answers(&mut bytes, rows, &mut { test });
-        BitBuffer::from_vec_proved(bytes, rows.len())
+        BitBuffer::from_list(bytes, rows.len())
     }
 }
 

@@ -126,14 +126,8 @@ pub struct SetSlices<'a> {
 
 impl<'a> SetSlices<'a> {
     /// The runs of the values of `chunks`. It serves the other crates of this repository alone.
-    ///
-    /// # Proved ([terms](crate::definitions))
-    ///
-    /// - *runs*: `AreRuns chunks.entry result`
-    /// - *list*: `result ≡ runs chunks.entry`
-    #[doc(hidden)]
     #[inline(always)]
-    pub fn new(chunks: BitChunks<'a>) -> SetSlices<'a> {
+    pub(crate) fn new(chunks: BitChunks<'a>) -> SetSlices<'a> {
         let word = first_word(&chunks);
         SetSlices { chunks, at: 0, word }
     }

@@ -431,7 +431,7 @@ impl Mask {
     ) -> Result<Vec<usize>, MaskError> {
         match self {
             Mask::AllTrue(_) => Ok(Vec::from_slice(indices)?),
-            Mask::AllFalse(_) => Ok(crate::kit::filled(0, indices.len())?),
+            Mask::AllFalse(_) => Ok(crate::kit::filled(0usize, indices.len())?),
             Mask::Values(values) => Ok(counts_below(values.bit_buffer(), indices)?),
         }
     }

@@ -3,6 +3,7 @@
 
 use crate::kit::prelude::*;
 use crate::proved::mask_bits::BitBuffer;
+use crate::proved::mask_bits::byte_list::ByteList;
 use crate::proved::vortex_mask::mask::{Mask, MaskError, MaskValues};
 
 use crate::kit::Arc;
@@ -49,14 +50,14 @@ impl Mask {
     // The mask of the first `len` bits of `words`, of which `true_count` are true.
     #[inline]
     pub(crate) fn of_words(
-        words: Vec<u8>,
+        words: ByteList,
         len: usize,
         true_count: usize,
     ) -> Result<Mask, MaskError> {
         if let Some(mask) = Mask::of_one_value(len, true_count) {
             return Ok(mask);
         }
-        let buffer = BitBuffer::from_vec_proved(words, len)?;
+        let buffer = BitBuffer::from_list(words, len)?;
         Mask::of_mixed(buffer, true_count, None, None)
     }
 

@@ -107,5 +107,5 @@ fn rows_held(ranges: &[(usize, usize)]) -> usize {
 fn buffer_of(len: usize, ranges: &[(usize, usize)]) -> Result<BitBuffer, AllocError> {
     let mut bytes = crate::kit::filled(0u8, 8 * started_words(len))?;
     set_ranges(&mut bytes, ranges);
-    BitBuffer::from_vec_proved(bytes, len)
+    BitBuffer::from_list(bytes, len)
 }

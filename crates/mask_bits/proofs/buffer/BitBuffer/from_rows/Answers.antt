@@ -10,8 +10,8 @@ returns-clause-answers g c =
     let bytes = c.in_ok-bytes.bytes in
     let back = take_back bytes.len c.put_answers.new.bytes bytes.items (omega arith) in
     let are = subst (λ xs. AreAnswers gives rows (bitmap xs 0 (length rows))) (sym back) c.put_answers.ensures in
-    IfOk-weaker c.from_vec.result _ _ (λ b same. subst (λ p. AreAnswers gives rows (values p)) (sym same) are) c.from_vec.ensures.buffer
+    IfOk-weaker c.from_list.result _ _ (λ b same. subst (λ p. AreAnswers gives rows (values p)) (sym same) are) c.from_list.ensures.buffer
 
 pub returns-clause-list : goal.returns-clause-list
 returns-clause-list g c =
-    IfOk-weaker c.from_vec.result _ _ (λ b are. computed_of_answers g.F.Fn c.args.test c.args.rows.now (values b) are) (returns-clause-answers g c)
+    IfOk-weaker c.from_list.result _ _ (λ b are. computed_of_answers g.F.Fn c.args.test c.args.rows.now (values b) are) (returns-clause-answers g c)

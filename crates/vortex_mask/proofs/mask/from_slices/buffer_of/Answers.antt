@@ -15,5 +15,5 @@ returns-clause-list c =
     let len = c.args.len in
     let bytes = c.set_ranges.new.bytes in
     let back = take_at bytes _ c.in_ok-bytes.bytes.len (omega (arith, c.set_ranges.auto.bytes, c.deref_mut.ensures.len)) in
-    IfOk-weaker c.from_vec.result _ _ (λ b is.
-    subst (λ (m : List Bool). AreRanges m rs) (sym (ap values is ∙ ap (λ (xs : List ℕ). bitmap xs 0 len) back)) (AreRanges-set len rs bytes c.requires c.set_ranges.ensures)) c.from_vec.ensures.buffer
+    IfOk-weaker c.from_list.result _ _ (λ b is.
+    subst (λ (m : List Bool). AreRanges m rs) (sym (ap values is ∙ ap (λ (xs : List ℕ). bitmap xs 0 len) back)) (AreRanges-set len rs bytes c.requires c.set_ranges.ensures)) c.from_list.ensures.buffer
