@@ -14,7 +14,7 @@ use crate::byte_list::{ByteList, byte_list};
 use crate::chunks::BitChunks;
 use crate::counts::count_bits;
 use crate::words::started_words;
-use crate::write_bits::set_bit;
+use crate::write_bits::{ones, set_bit};
 use bytes::{Bytes, BytesMut};
 use std::alloc::{AllocError, Global};
 use std::fmt;
@@ -91,8 +91,7 @@ impl BitBuffer {
     pub fn new_set(alloc: Global, len: usize) -> Result<BitBuffer, AllocError>
         ensures { IfOk result (λ b. values b ≡ repeated len true) }
     {
-        let ones = vec![in alloc; 0xFFu8; len.div_ceil(8)]?;
-        BitBuffer::from_list(ones, len)
+        BitBuffer::from_list(ones(alloc, len)?, len)
     }
 
     /// `len` false values.
@@ -272,6 +271,7 @@ impl BitBuffer {
     }
 
     /// The index of true value number `n`, counted from 0, and `None` from the true count on.
+    #[inline(never)]
     pub fn select(&self, n: usize) -> Option<usize>
         ensures index { result ≡ slice_get (positions (values self.now)) n }
         ensures within { IfSome result (λ p. p < length (values self.now)) }

@@ -1,6 +1,6 @@
 //! Bits written to bytes: one bit, a word, one value many times, or bits of other bytes.
 
-ghost use Rattle.std.specs.Prelude.{◌≡◌, ◌+◌, ◌*◌, ◌%◌, ◌^◌, ◌<◌, ◌≤◌, ◌&&◌, ℕ, not, true, nat_eq, length, take, ◌-◌, ◌||◌, false, slice_index_or};
+ghost use Rattle.std.specs.Prelude.{◌≡◌, ◌+◌, ◌*◌, ◌%◌, ◌^◌, ◌<◌, ◌≤◌, ◌&&◌, ℕ, not, true, nat_eq, length, take, ◌-◌, ◌||◌, false, slice_index_or, slice_set, IfOk, vec_len};
 ghost use Rattle.std.specs.Int.{div_ceil};
 ghost use Rattle.mask_bits.specs.Bitmap.{bitmap};
 ghost use Rattle.mask_bits.specs.Buffer.{IsWithinBytes, backing_bit};
@@ -8,8 +8,10 @@ ghost use Rattle.mask_bits.specs.BufferMut.{IsWrittenBehind, AreClearFrom};
 ghost use Rattle.mask_bits.specs.Positions.{repeated, count};
 ghost use Rattle.mask_bits.specs.Words.{word_bits};
 
+use crate::byte_list::ByteList;
 use crate::read_word::{Bits, ReadWord, Shifted, Whole};
 use crate::words::{low_bits, set_word, word_at, word_of};
+use std::alloc::{AllocError, Global};
 
 /// Sets the bit at one position and no other.
 #[tactic(auto, using(crate::proofs::SetBitLemmas::bits_written))]
@@ -28,6 +30,25 @@ pub fn clear_bit(bytes: &mut [u8], position: usize)
         ≡ (not (nat_eq p position) && backing_bit bytes.old p) }
 {
     bytes[position / 8] &= !(1 << (position % 8));
+}
+
+/// Bytes for `len` bits, all set.
+#[tactic(auto, using(crate::proofs::BufferLemmas::one_value))]
+pub fn ones(alloc: Global, len: usize) -> Result<ByteList, AllocError>
+    ensures covered { IfOk result (λ bytes. len ≤ 8 * vec_len bytes) }
+    ensures list { IfOk result (λ bytes. bitmap bytes.items 0 len ≡ repeated len true) }
+{
+    vec![in alloc; 0xFFu8; len.div_ceil(8)]
+}
+
+/// Makes value `i` of the first `len` false, and no other.
+#[tactic(auto, using(crate::proofs::BufferLemmas::len_facts, crate::proofs::BuilderLemmas::bits_set))]
+pub fn unset_value(bytes: &mut [u8], len: usize, i: usize)
+    requires within { i < len }
+    requires covered { len ≤ 8 * length bytes.old }
+    ensures { bitmap bytes.new 0 len ≡ slice_set (bitmap bytes.old 0 len) i false }
+{
+    clear_bit(bytes, i);
 }
 
 // Writes the lowest `count` bits of a word behind the first `at` bits.

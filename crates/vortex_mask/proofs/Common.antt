@@ -23,7 +23,7 @@ pub use Rattle.mask_bits.proofs.Lists.Places.SelectLemmas.{count-part_further, c
 pub use Rattle.mask_bits.proofs.Lists.RankLemmas.{All-at_indices, length-true_at, rank_intersection-all_true, rank_intersection-by_all_true}
 pub use Rattle.mask_bits.proofs.Lists.Runs.RangeLemmas.{Ordered, Ordered-of, Ordered-top, ranges_add_up_to_the_count}
 pub use Rattle.mask_bits.proofs.Lists.Runs.RunLemmas.{AreRuns-runs_from, Spread, runs_are_ranges, runs_from-RunsOf}
-pub use Rattle.mask_bits.proofs.Lists.Words.BackingBitLemmas.{get_or-bitmap, length-bitmap}
+pub use Rattle.mask_bits.proofs.Lists.Words.BackingBitLemmas.{get_or-bitmap, length-bitmap, no_values}
 pub use Rattle.mask_bits.proofs.Lists.Words.FrontLemmas.{get_or-front, get_or-put_mid_above, get_or-put_mid_below, get_or-put_mid_inside, get_or-window, length-window, window-drop, window_from_bits}
 pub use Rattle.mask_bits.proofs.Lists.Words.LaneLemmas.{AreLanes-itself, AreLanes-map, AreLanes-same, AreLanes-splat, AreLanes-swz_l, AreLanes-zip2, SwzOk-lanes}
 pub use Rattle.mask_bits.proofs.Lists.Words.PaddedLemmas.{get_or-padded_part, padded_part-remainder, padded_part-whole, padded_part_from_values}

@@ -1,8 +1,9 @@
 //! Masks from indices, and what is wrong with a list of them.
 
-ghost use Rattle.std.specs.Prelude.{◌≡◌, ◌<◌, ◌⊎◌, IfOk, IfErr, Some, None, Ok, Err, length, alloc_error, ℕ, List, true, false};
+ghost use Rattle.std.specs.Prelude.{◌≡◌, ◌*◌, ◌<◌, ◌≤◌, ◌⊎◌, IfOk, IfErr, Some, None, Ok, Err, length, vec_len, alloc_error, ℕ, List, true, false};
 ghost use Rattle.std.specs.Iterator.{IsFinite, Drains};
 ghost use Rattle.std.specs.Iterator.Runs.{WholeRun, EachRunFrom};
+ghost use Rattle.mask_bits.specs.Bitmap.{bitmap};
 ghost use Rattle.mask_bits.specs.Positions.{positions, true_at, repeated};
 ghost use Rattle.vortex_mask.specs.Faults.{index_fault, first_unsorted, first_repeated, out_of_bounds, first_past, common};
 ghost use Rattle.vortex_mask.specs.Caches.{caches, where_mixed};
@@ -14,7 +15,9 @@ ghost use Rattle.vortex_mask.specs.Ranks.{IsAscending};
 use crate::conditions::ascends;
 use crate::mask::common_indices::common;
 use crate::mask::{Mask, MaskError};
-use mask_bits::BitBufferMut;
+use mask_bits::BitBuffer;
+use mask_bits::byte_list::ByteList;
+use mask_bits::write_bits::{ones, unset_value};
 use std::alloc::Global;
 
 /// Masks of true indices.
@@ -141,42 +144,42 @@ impl Mask {
         ensures refused_whole { IfErr result (λ e. (e ≡ MaskError.Memory alloc_error)
             ⊎ WholeRun I.next_gives indices (λ p. out_of_bounds len p.items ≡ Some e)) }
     {
-        let mut builder = BitBufferMut::new_set(alloc, len)?;
-        if let Some(index) = exclude(&mut builder, indices) {
+        let mut bytes = ones(alloc, len)?;
+        if let Some(index) = exclude(&mut bytes, len, indices) {
             return Err(MaskError::IndexOutOfBounds { index, len });
         }
-        Mask::of_builder(alloc, builder)
+        Mask::of_bytes(alloc, bytes, len)
     }
 
-    // The mask of these values. No values give `AllTrue(0)`.
-    #[tactic(auto, using(crate::proofs::Masks::MaskLemmas::variant_facts))]
-    fn of_builder(alloc: Global, builder: BitBufferMut) -> Result<Mask, MaskError>
-        ensures list { IfOk result (λ m. truth m ≡ builder) }
+    // The mask of the first `len` bits of bytes. No values give `AllTrue(0)`.
+    #[tactic(auto, using(crate::proofs::Masks::MaskLemmas::variant_facts, crate::proofs::Masks::MaskLemmas::bitmap_facts))]
+    fn of_bytes(alloc: Global, bytes: ByteList, len: usize) -> Result<Mask, MaskError>
+        requires { len ≤ 8 * vec_len bytes }
+        ensures list { IfOk result (λ m. truth m ≡ bitmap bytes.items 0 len) }
         ensures variant { IfOk result (λ m. variant m ≡ fitting_variant all_true (truth m)) }
         ensures caches { IfOk result (λ m. caches m ≡ no_caches) }
         ensures refused { IfErr result (λ e. e ≡ MaskError.Memory alloc_error) }
     {
-        if builder.len() == 0 {
+        if len == 0 {
             return Ok(Mask::AllTrue(0));
         }
-        let builder = builder.freeze()?;
-        Mask::from_buffer(alloc, builder)
+        Mask::from_buffer(alloc, BitBuffer::from_list(bytes, len)?)
     }
 }
 
-// Makes the values at these indices false, and tells the first one that is past the end.
-fn exclude<I: Iterator<Item = usize>>(builder: &mut BitBufferMut, indices: I) -> Option<usize>
+// Makes those of the first `len` values false that are at these indices, and tells the first index that is past their end.
+fn exclude<I: Iterator<Item = usize>>(bytes: &mut [u8], len: usize, indices: I) -> Option<usize>
     requires can { I.can_next indices }
     requires ends { IsFinite (I.remaining indices) }
-    requires all { builder.old ≡ repeated (length builder.old) true }
+    requires covered { len ≤ 8 * length bytes.old }
+    requires all { bitmap bytes.old 0 len ≡ repeated len true }
     ensures { (xs : List ℕ) × Drains I.next_gives indices xs
-        × (builder.new ≡ not_of (true_at (length builder.old) xs))
-        × (result ≡ first_past (length builder.old) xs) }
+        × (bitmap bytes.new 0 len ≡ not_of (true_at len xs)) × (result ≡ first_past len xs) }
 {
     let mut past_end = None;
     for index in indices {
-        if index < builder.len() {
-            builder.unset(index);
+        if index < len {
+            unset_value(bytes, len, index);
         } else {
             past_end = past_end.or(Some(index));
         }

@@ -10,7 +10,7 @@ use crate::proved::mask_bits::byte_list::{ByteList, byte_list};
 use crate::proved::mask_bits::chunks::BitChunks;
 use crate::proved::mask_bits::counts::count_bits;
 use crate::proved::mask_bits::words::started_words;
-use crate::proved::mask_bits::write_bits::set_bit;
+use crate::proved::mask_bits::write_bits::{ones, set_bit};
 use ::core::fmt;
 
 /// An immutable list of truth values, packed eight to a byte.
@@ -131,8 +131,7 @@ impl BitBuffer {
 
     #[inline]
     pub(crate) fn new_set_proved(len: usize) -> Result<BitBuffer, AllocError> {
-        let ones = crate::kit::filled(0xFFu8, len.div_ceil(8))?;
-        BitBuffer::from_list(ones, len)
+        BitBuffer::from_list(ones(len)?, len)
     }
 
     /// `len` false values.
@@ -428,12 +427,12 @@ impl BitBuffer {
     ///
     /// - *index*: `result ≡ slice_get (positions (values self.now)) n`
     /// - *within*: `IfSome result (λ p. p < length (values self.now))`
-    #[inline]
+    #[inline(never)]
     pub fn select(&self, n: usize) -> Option<usize> {
         self.select_proved(n)
     }
 
-    #[inline]
+    #[inline(never)]
     pub(crate) fn select_proved(&self, n: usize) -> Option<usize> {
         self.chunks().select_proved(n)
     }

@@ -2,7 +2,9 @@
 //! Masks from indices, and what is wrong with a list of them.
 
 use crate::kit::prelude::*;
-use crate::proved::mask_bits::BitBufferMut;
+use crate::proved::mask_bits::BitBuffer;
+use crate::proved::mask_bits::byte_list::ByteList;
+use crate::proved::mask_bits::write_bits::{ones, unset_value};
 use crate::proved::vortex_mask::conditions::ascends;
 use crate::proved::vortex_mask::mask::common_indices::common;
 use crate::proved::vortex_mask::mask::{Mask, MaskError};
@@ -143,31 +145,30 @@ impl Mask {
         len: usize,
         indices: I,
     ) -> Result<Mask, MaskError> {
-        let mut builder = BitBufferMut::new_set_proved(len)?;
-        if let Some(index) = exclude(&mut builder, indices) {
+        let mut bytes = ones(len)?;
+        if let Some(index) = exclude(&mut bytes, len, indices) {
             return Err(MaskError::IndexOutOfBounds { index, len });
         }
-        Mask::of_builder(builder)
+        Mask::of_bytes(bytes, len)
     }
 
-    // The mask of these values. No values give `AllTrue(0)`.
+    // The mask of the first `len` bits of bytes. No values give `AllTrue(0)`.
     #[inline]
-    fn of_builder(builder: BitBufferMut) -> Result<Mask, MaskError> {
-        if builder.len() == 0 {
+    fn of_bytes(bytes: ByteList, len: usize) -> Result<Mask, MaskError> {
+        if len == 0 {
             return Ok(Mask::AllTrue(0));
         }
-        let builder = builder.freeze_proved()?;
-        Mask::from_buffer_proved(builder)
+        Mask::from_buffer_proved(BitBuffer::from_list(bytes, len)?)
     }
 }
 
-// Makes the values at these indices false, and tells the first one that is past the end.
+// Makes those of the first `len` values false that are at these indices, and tells the first index that is past their end.
 #[inline]
-fn exclude<I: Iterator<Item = usize>>(builder: &mut BitBufferMut, indices: I) -> Option<usize> {
+fn exclude<I: Iterator<Item = usize>>(bytes: &mut [u8], len: usize, indices: I) -> Option<usize> {
     let mut past_end = None;
     for index in indices {
-        if index < builder.len() {
-            builder.unset_proved(index);
+        if index < len {
+            unset_value(bytes, len, index);
         } else {
             past_end = past_end.or(Some(index));
         }

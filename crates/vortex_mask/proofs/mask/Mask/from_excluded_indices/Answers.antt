@@ -1,18 +1,13 @@
-use Rattle.vortex_mask.proofs.Common.{◌≡◌, List, ℕ, Some, None, true, length, inl, inr, sym, ap, ◌∙◌, option_map, IfOk-weaker, not_of, repeated, true_at, out_of_bounds, truth, length-repeated, IndexOutOfBounds}
+use Rattle.vortex_mask.proofs.Common.{◌≡◌, List, ℕ, Some, None, length, inl, inr, ap, ◌∙◌, option_map, IfOk-weaker, not_of, true_at, out_of_bounds, truth, IndexOutOfBounds, refl, bitmap, take_at, arith}
 use Rattle.vortex_mask.proofs.Masks.ExcludedLemmas.{length-without}
 use Rattle.vortex_mask.proofs.Masks.FaultLemmas.{out_of_bounds-first}
 use Rattle.vortex_mask.proofs.Masks.MaskWalkLemmas.{whole_run}
 use Rattle.vortex_mask.proofs.mask.Mask.from_excluded_indices.Goals as goal
 
-pub exclude-requires-clause-all : goal.exclude-requires-clause-all
-exclude-requires-clause-all g c =
-    c.in_ok-builder.ensures ∙ ap (λ n. repeated n true) (sym (ap length c.in_ok-builder.ensures ∙ length-repeated c.args.len true))
-
 pub returns-in-Some-clause-refused : goal.returns-in-Some-clause-refused
 returns-in-Some-clause-refused g c =
     let came = c.exclude.ensures in
-    let n = ap length c.in_ok-builder.ensures ∙ length-repeated c.args.len true in
-    let fault = out_of_bounds-first c.args.len (length c.in_ok-builder.builder) came.0 c.exclude.result n came.3
+    let fault = out_of_bounds-first c.args.len c.args.len came.0 c.exclude.result refl came.3
     ∙ ap (option_map (λ x. IndexOutOfBounds x c.args.len)) c.in-Some.is in
     inr (came.0, came.1, fault)
 
@@ -25,15 +20,17 @@ returns-in-Some-clause-refused_whole g c = elim (returns-in-Some-clause-refused 
 pub returns-clause-list : goal.returns-clause-list
 returns-clause-list g c =
     let came = c.exclude.ensures in
-    let n = ap length c.in_ok-builder.ensures ∙ length-repeated c.args.len true in
-    let none = out_of_bounds-first c.args.len (length c.in_ok-builder.builder) came.0 c.exclude.result n came.3
+    let none = out_of_bounds-first c.args.len c.args.len came.0 c.exclude.result refl came.3
     ∙ ap (option_map (λ x. IndexOutOfBounds x c.args.len)) c.in_default.is in
-    IfOk-weaker c.of_builder.result _ _ (λ m same. (came.0, came.1, none, same ∙ came.2 ∙ ap (λ k. not_of (true_at k came.0)) n)) c.of_builder.ensures.list
+    let bytes = c.in_ok-bytes.bytes in
+    let back = take_at c.exclude.new.bytes _ bytes.len (omega (arith, c.exclude.auto.bytes, c.deref_mut.ensures.len)) in
+    let all = ap (λ (xs : List ℕ). bitmap xs 0 c.args.len) back ∙ came.2 in
+    IfOk-weaker c.of_bytes.result _ _ (λ m same. (came.0, came.1, none, same ∙ all)) c.of_bytes.ensures.list
 
 pub returns-clause-whole : goal.returns-clause-whole
 returns-clause-whole g c =
-    IfOk-weaker c.of_builder.result _ _ (λ m made.
+    IfOk-weaker c.of_bytes.result _ _ (λ m made.
     whole_run _ _ (λ (xs : List ℕ). (out_of_bounds c.args.len xs ≡ None) × (truth m ≡ not_of (true_at c.args.len xs))) made.0 made.1 (made.2, made.3)) (returns-clause-list g c)
 
 pub returns-clause-len : goal.returns-clause-len
-returns-clause-len g c = IfOk-weaker c.of_builder.result _ _ (λ m made. ap length made.3 ∙ length-without c.args.len made.0) (returns-clause-list g c)
+returns-clause-len g c = IfOk-weaker c.of_bytes.result _ _ (λ m made. ap length made.3 ∙ length-without c.args.len made.0) (returns-clause-list g c)
