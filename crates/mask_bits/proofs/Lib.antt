@@ -11,6 +11,7 @@ pub mod Common
 mod CompareLemmas
 mod Examples
 mod FirstLemmas
+mod KleeneLemmas
 mod LawRows
 mod LawRules
 pub mod Lists

@@ -6,6 +6,7 @@ pub mod CountLemmas
 pub mod GroupLemmas
 pub mod LawLemmas
 pub mod LimitLemmas
+pub mod NullableLemmas
 pub mod PartLemmas
 pub mod Places
 pub mod PushRowsLemmas

@@ -5,8 +5,10 @@ pub mod ChosenBits
 pub mod Combine
 pub mod Extract
 pub mod Lanes
+pub mod Kleene
 pub mod Laws
 pub mod Lists
+pub mod Nullable
 pub mod Number
 pub mod Positions
 pub mod Pushed

@@ -3,6 +3,7 @@
 
 mod boolean;
 mod indices;
+mod nullable;
 mod parts;
 mod rank_intersection;
 mod runs;
@@ -13,6 +14,10 @@ pub use boolean::{
     or_is_free_of_order,
 };
 pub use indices::{count_below_position, positions_determine_list};
+pub use nullable::{
+    kleene_de_morgan, kleene_filter_keeps_no_null, kleene_is_not_false_of_not, kleene_is_true,
+    kleene_not_twice, kleene_without_nulls,
+};
 pub use parts::{limit_count, limit_of_limit, part_of_concat, part_of_part};
 pub use rank_intersection::{
     all_true_left_unit, all_true_right_unit, choosing_twice, rank_intersection_associative,

@@ -30,6 +30,8 @@ mod eq;
 pub mod extract;
 // rust: visible
 mod from_rows;
+#[doc(hidden)]
+pub mod kleene;
 pub mod laws;
 // rust: replaced by native::processor
 #[doc(hidden)]

@@ -1,0 +1,152 @@
+-- The words that the loop over two lists with nulls reads and writes.
+use Rattle.mask_bits.proofs.Common.{◌≡◌, ℕ, zero, suc, ◌+◌, ◌*◌, ◌-◌, ◌<◌, ◌≤◌, ◌⊎◌, ◌^◌, not, Bool, true, false, ◌&&◌, ◌||◌, List, [], ◌∷◌, length, get_or, map, zip, Option, None, Some, refl, sym, ap, ◌∙◌, inl, inr, cases_lt, arith, bit_and, bit_or, bit_not, w64, ext_get_or, combined, and_of, or_of, not_of, and_not_of, backing_bit, word_bits, window, length-map, get_or-map}
+use Rattle.std.specs.Option.{is_some}
+use Rattle.mask_bits.specs.Kleene.{always_valid, is_false, placed, value_at, AreWordsOf, AreOfTable}
+use Rattle.mask_bits.specs.Nullable.{and_kleene, or_kleene, is_true, nullable_value, combined_nullable, is_true_of, is_valid_of}
+use Rattle.mask_bits.proofs.CombineLemmas.{word_bits-combined}
+use Rattle.mask_bits.proofs.Lists.BooleanLemmas.{length-combined, get_or-combined, length-not_of}
+use Rattle.mask_bits.proofs.Lists.NullableLemmas.{by_values, by_values_2, map_combined}
+use Rattle.mask_bits.proofs.Lists.Words.FrontLemmas.{length-window, get_or-window}
+use Rattle.mask_bits.proofs.Lists.Words.ShiftLemmas.{get_or-word_bits_and, get_or-word_bits_or, get_or-word_bits_not}
+use Rattle.mask_bits.proofs.Lists.Words.WordLemmas.{length-word_bits}
+
+-- ---- words as lists
+
+word_and : (v w : ℕ) → word_bits (bit_and v w) ≡ and_of (word_bits v) (word_bits w)
+word_and v w = word_bits-combined (λ x y. x && y) (bit_and v w) v w (λ j h. get_or-word_bits_and v w j h)
+
+word_or : (v w : ℕ) → word_bits (bit_or v w) ≡ or_of (word_bits v) (word_bits w)
+word_or v w = word_bits-combined (λ x y. x || y) (bit_or v w) v w (λ j h. get_or-word_bits_or v w j h)
+
+word_not : (w : ℕ) → w < 2 ^ 64 → word_bits (bit_not w64 w) ≡ not_of (word_bits w)
+word_not w fits = ext_get_or false _ _ (length-word_bits (bit_not w64 w) ∙ sym (length-not_of (word_bits w) ∙ length-word_bits w)) (λ j h. grind (arith, length-word_bits, get_or-word_bits_not, get_or-map))
+
+-- ---- the parts of values and their validity
+
+trues-present : (m v : List Bool) → and_of v m ≡ is_true_of (placed nullable_value m v)
+trues-present [] [] = refl
+trues-present [] (y ∷ v) = refl
+trues-present (x ∷ m) [] = refl
+trues-present (true ∷ m) (true ∷ v) = grind (arith, trues-present m v)
+trues-present (true ∷ m) (false ∷ v) = grind (arith, trues-present m v)
+trues-present (false ∷ m) (true ∷ v) = grind (arith, trues-present m v)
+trues-present (false ∷ m) (false ∷ v) = grind (arith, trues-present m v)
+
+falses-present : (m v : List Bool) → and_of v (not_of m) ≡ map is_false (placed nullable_value m v)
+falses-present [] [] = refl
+falses-present [] (y ∷ v) = refl
+falses-present (x ∷ m) [] = refl
+falses-present (true ∷ m) (true ∷ v) = grind (arith, falses-present m v)
+falses-present (true ∷ m) (false ∷ v) = grind (arith, falses-present m v)
+falses-present (false ∷ m) (true ∷ v) = grind (arith, falses-present m v)
+falses-present (false ∷ m) (false ∷ v) = grind (arith, falses-present m v)
+
+-- where there is none, as long a list stands in its place
+trues-absent : (m v : List Bool) → length m ≡ length v → m ≡ is_true_of (placed always_valid m v)
+trues-absent [] v len = refl
+trues-absent (x ∷ m) [] len = absurd (omega arith)
+trues-absent (true ∷ m) (y ∷ v) len = grind (arith, trues-absent m v)
+trues-absent (false ∷ m) (y ∷ v) len = grind (arith, trues-absent m v)
+
+falses-absent : (m v : List Bool) → length m ≡ length v → not_of m ≡ map is_false (placed always_valid m v)
+falses-absent [] v len = refl
+falses-absent (x ∷ m) [] len = absurd (omega arith)
+falses-absent (true ∷ m) (y ∷ v) len = grind (arith, falses-absent m v)
+falses-absent (false ∷ m) (y ∷ v) len = grind (arith, falses-absent m v)
+
+pub words-present : (m v : ℕ) → m < 2 ^ 64 → AreWordsOf (placed nullable_value (word_bits m) (word_bits v)) (bit_and v m) (bit_and v (bit_not w64 m))
+words-present m v fits = record {
+  trues = word_and v m ∙ trues-present (word_bits m) (word_bits v);
+  falses = word_and v (bit_not w64 m) ∙ ap (and_of (word_bits v)) (word_not m fits) ∙ falses-present (word_bits m) (word_bits v);
+}
+
+pub words-absent : (m v : ℕ) → m < 2 ^ 64 → AreWordsOf (placed always_valid (word_bits m) (word_bits v)) m (bit_not w64 m)
+words-absent m v fits = record {
+  trues = trues-absent (word_bits m) (word_bits v) (length-word_bits m ∙ sym (length-word_bits v));
+  falses = word_not m fits ∙ falses-absent (word_bits m) (word_bits v) (length-word_bits m ∙ sym (length-word_bits v));
+}
+
+-- ---- the tables
+
+true_and : (x y : Option Bool) → is_true (and_kleene x y) ≡ (is_true x && is_true y)
+true_and = by_values_2 (λ x y. is_true (and_kleene x y) ≡ (is_true x && is_true y)) refl refl refl refl refl refl refl refl refl
+
+false_and : (x y : Option Bool) → is_false (and_kleene x y) ≡ (is_false x || is_false y)
+false_and = by_values_2 (λ x y. is_false (and_kleene x y) ≡ (is_false x || is_false y)) refl refl refl refl refl refl refl refl refl
+
+true_or : (x y : Option Bool) → is_true (or_kleene x y) ≡ (is_true x || is_true y)
+true_or = by_values_2 (λ x y. is_true (or_kleene x y) ≡ (is_true x || is_true y)) refl refl refl refl refl refl refl refl refl
+
+false_or : (x y : Option Bool) → is_false (or_kleene x y) ≡ (is_false x && is_false y)
+false_or = by_values_2 (λ x y. is_false (or_kleene x y) ≡ (is_false x && is_false y)) refl refl refl refl refl refl refl refl refl
+
+pub words-and : (a b : List (Option Bool)) (s t u w : ℕ) → AreWordsOf a s t → AreWordsOf b u w → AreWordsOf (combined_nullable and_kleene a b) (bit_and s u) (bit_or t w)
+words-and a b s t u w x y = record {
+  trues = grind (arith, word_and s u, x.trues, y.trues, map_combined is_true and_kleene (λ x y. x && y) true_and a b);
+  falses = grind (arith, word_or t w, x.falses, y.falses, map_combined is_false and_kleene (λ x y. x || y) false_and a b);
+}
+
+pub words-or : (a b : List (Option Bool)) (s t u w : ℕ) → AreWordsOf a s t → AreWordsOf b u w → AreWordsOf (combined_nullable or_kleene a b) (bit_or s u) (bit_and t w)
+words-or a b s t u w x y = record {
+  trues = grind (arith, word_or s u, x.trues, y.trues, map_combined is_true or_kleene (λ x y. x || y) true_or a b);
+  falses = grind (arith, word_and t w, x.falses, y.falses, map_combined is_false or_kleene (λ x y. x && y) false_or a b);
+}
+
+valid-parts : (m : List (Option Bool)) → or_of (map is_true m) (map is_false m) ≡ is_valid_of m
+valid-parts [] = refl
+valid-parts (Some true ∷ m) = grind (arith, valid-parts m)
+valid-parts (Some false ∷ m) = grind (arith, valid-parts m)
+valid-parts (None ∷ m) = grind (arith, valid-parts m)
+
+pub words-valid : (m : List (Option Bool)) (s t : ℕ) → AreWordsOf m s t → word_bits (bit_or s t) ≡ is_valid_of m
+words-valid m s t x = grind (arith, word_or s t, x.trues, x.falses, valid-parts m)
+
+-- ---- bits
+
+length-placed : (f : Bool → Bool → Option Bool) (m v : List Bool) → length m ≡ length v → length (placed f m v) ≡ length m
+length-placed f [] v len = refl
+length-placed f (x ∷ m) [] len = absurd (omega arith)
+length-placed f (x ∷ m) (y ∷ v) len = grind (arith, length-placed f m v)
+
+get_or-placed : (f : Bool → Bool → Option Bool) (m v : List Bool) (i : ℕ) → i < length m → length m ≡ length v → get_or (placed f m v) i None ≡ f (get_or m i false) (get_or v i false)
+get_or-placed f [] v i h len = absurd (omega arith)
+get_or-placed f (x ∷ m) [] i h len = absurd (omega arith)
+get_or-placed f (x ∷ m) (y ∷ v) zero h len = refl
+get_or-placed f (x ∷ m) (y ∷ v) (suc i) h len = grind (arith, get_or-placed f m v i)
+
+get_or-table : (h : Option Bool → Bool) (table : Option Bool → Option Bool → Option Bool) (a b : List (Option Bool)) (i : ℕ) → i < length a → length a ≡ length b
+    → get_or (map h (combined_nullable table a b)) i false ≡ h (table (get_or a i None) (get_or b i None))
+get_or-table h table [] b i below len = absurd (omega arith)
+get_or-table h table (x ∷ a) [] i below len = absurd (omega arith)
+get_or-table h table (x ∷ a) (y ∷ b) zero below len = refl
+get_or-table h table (x ∷ a) (y ∷ b) (suc i) below len = grind (arith, get_or-table h table a b i)
+
+-- value j of a word that was read
+placed_bit : (f : Bool → Bool → Option Bool) (a v : List ℕ) (p q i j : ℕ) → j < 64 → get_or (placed f (window a (p + 64 * i)) (window v (q + 64 * i))) j None ≡ value_at f a p v q (64 * i + j)
+placed_bit f a v p q i j h = grind (arith, get_or-placed f (window a (p + 64 * i)) (window v (q + 64 * i)) j, length-window, get_or-window)
+
+-- one more word
+pub AreOfTable-step : (h : Option Bool → Bool) (table : Option Bool → Option Bool → Option Bool) (f g : Bool → Bool → Option Bool) (a v b w out new : List ℕ) (p q r s i : ℕ) (m : List Bool)
+    → AreOfTable h table (value_at f a p v q) (value_at g b r w s) out (64 * i)
+    → m ≡ map h (combined_nullable table (placed f (window a (p + 64 * i)) (window v (q + 64 * i))) (placed g (window b (r + 64 * i)) (window w (s + 64 * i))))
+    → window new (64 * i) ≡ m
+    → ((k : ℕ) → ((k < 64 * i) ⊎ (64 * i + 64 ≤ k)) → backing_bit new k ≡ backing_bit out k)
+    → AreOfTable h table (value_at f a p v q) (value_at g b r w s) new (64 * (i + 1))
+AreOfTable-step h table f g a v b w out new p q r s i m before is wrote others = λ k below.
+    let x : List (Option Bool) = placed f (window a (p + 64 * i)) (window v (q + 64 * i)) in
+    let y : List (Option Bool) = placed g (window b (r + 64 * i)) (window w (s + 64 * i)) in
+    let long : (f : Bool → Bool → Option Bool) (a v : List ℕ) (p q : ℕ) → length (placed f (window a p) (window v q)) ≡ 64
+    = λ f a v p q. length-placed f (window a p) (window v q) (length-window a p ∙ sym (length-window v q)) ∙ length-window a p in
+    elim (cases_lt k (64 * i)) [
+      | inl under ↦ others k (inl under) ∙ before k under
+      | inr over ↦
+          let j : ℕ = k - 64 * i in
+          let few : j < 64 = omega arith in
+          let at : 64 * i + j ≡ k = omega arith in
+          let bit : backing_bit new k ≡ get_or m j false = ap (backing_bit new) (sym at) ∙ sym (get_or-window new (64 * i) j false few) ∙ ap (λ (xs : List Bool). get_or xs j false) wrote in
+          let of : get_or m j false ≡ h (table (get_or x j None) (get_or y j None))
+          = ap (λ (xs : List Bool). get_or xs j false) is ∙ get_or-table h table x y j (omega (arith, long f a v (p + 64 * i) (q + 64 * i))) (long f a v (p + 64 * i) (q + 64 * i) ∙ sym (long g b w (r + 64 * i) (s + 64 * i))) in
+          bit ∙ of ∙ grind (arith, placed_bit f a v p q i j few, placed_bit g b w r s i j few, at)
+    ]
+
+pub ruleset nullable_words = (words-present, words-absent, words-and, words-or, words-valid)
