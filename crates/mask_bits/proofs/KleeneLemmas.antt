@@ -1,9 +1,10 @@
 -- The words that the loop over two lists with nulls reads and writes.
-use Rattle.mask_bits.proofs.Common.{◌≡◌, ℕ, zero, suc, ◌+◌, ◌*◌, ◌-◌, ◌<◌, ◌≤◌, ◌⊎◌, ◌^◌, not, Bool, true, false, ◌&&◌, ◌||◌, List, [], ◌∷◌, length, get_or, map, zip, Option, None, Some, refl, sym, ap, ◌∙◌, inl, inr, cases_lt, arith, bit_and, bit_or, bit_not, w64, ext_get_or, combined, and_of, or_of, not_of, and_not_of, backing_bit, word_bits, window, length-map, get_or-map}
+use Rattle.mask_bits.proofs.Common.{◌≡◌, ℕ, zero, suc, ◌+◌, ◌*◌, ◌-◌, ◌<◌, ◌≤◌, ◌⊎◌, ◌^◌, not, Bool, true, false, ◌&&◌, ◌||◌, List, [], ◌∷◌, length, get_or, map, zip, Option, None, Some, refl, sym, ap, ◌∙◌, inl, inr, cases_lt, arith, ◌/◌, ◌%◌, drop, bitmap, Packed, values, bit_and, bit_or, bit_not, w64, ext_get_or, combined, and_of, or_of, not_of, and_not_of, backing_bit, word_bits, window, length-map, get_or-map}
 use Rattle.std.specs.Option.{is_some}
 use Rattle.mask_bits.specs.Kleene.{always_valid, is_false, placed, value_at, AreWordsOf, AreOfTable}
-use Rattle.mask_bits.specs.Nullable.{and_kleene, or_kleene, is_true, nullable_value, combined_nullable, is_true_of, is_valid_of}
-use Rattle.mask_bits.proofs.CombineLemmas.{word_bits-combined}
+use Rattle.mask_bits.specs.Nullable.{and_kleene, or_kleene, is_true, nullable, nullable_value, combined_nullable, is_true_of, is_valid_of}
+use Rattle.mask_bits.proofs.BufferLemmas.{length-values, get_or-values, values_from_bits, values_from_front}
+use Rattle.mask_bits.proofs.CombineLemmas.{word_bits-combined, backing_bit-drop}
 use Rattle.mask_bits.proofs.Lists.BooleanLemmas.{length-combined, get_or-combined, length-not_of}
 use Rattle.mask_bits.proofs.Lists.NullableLemmas.{by_values, by_values_2, map_combined}
 use Rattle.mask_bits.proofs.Lists.Words.FrontLemmas.{length-window, get_or-window}
@@ -121,6 +122,15 @@ get_or-table h table (x ∷ a) [] i below len = absurd (omega arith)
 get_or-table h table (x ∷ a) (y ∷ b) zero below len = refl
 get_or-table h table (x ∷ a) (y ∷ b) (suc i) below len = grind (arith, get_or-table h table a b i)
 
+length-table : (h : Option Bool → Bool) (table : Option Bool → Option Bool → Option Bool) (a b : List (Option Bool)) → length a ≡ length b → length (map h (combined_nullable table a b)) ≡ length a
+length-table h table [] b len = refl
+length-table h table (x ∷ a) [] len = absurd (omega arith)
+length-table h table (x ∷ a) (y ∷ b) len = grind (arith, length-table h table a b)
+
+-- value i of lists that are lent
+placed_value : (f : Bool → Bool → Option Bool) (a v : List ℕ) (p q len i : ℕ) → i < len → get_or (placed f (bitmap a p len) (bitmap v q len)) i None ≡ value_at f a p v q i
+placed_value f a v p q len i h = grind (arith, get_or-placed f (bitmap a p len) (bitmap v q len) i, length-values, get_or-values)
+
 -- value j of a word that was read
 placed_bit : (f : Bool → Bool → Option Bool) (a v : List ℕ) (p q i j : ℕ) → j < 64 → get_or (placed f (window a (p + 64 * i)) (window v (q + 64 * i))) j None ≡ value_at f a p v q (64 * i + j)
 placed_bit f a v p q i j h = grind (arith, get_or-placed f (window a (p + 64 * i)) (window v (q + 64 * i)) j, length-window, get_or-window)
@@ -148,5 +158,37 @@ AreOfTable-step h table f g a v b w out new p q r s i m before is wrote others =
           = ap (λ (xs : List Bool). get_or xs j false) is ∙ get_or-table h table x y j (omega (arith, long f a v (p + 64 * i) (q + 64 * i))) (long f a v (p + 64 * i) (q + 64 * i) ∙ sym (long g b w (r + 64 * i) (s + 64 * i))) in
           bit ∙ of ∙ grind (arith, placed_bit f a v p q i j few, placed_bit g b w r s i j few, at)
     ]
+
+-- ---- lists
+
+-- bits that the table gives are the list that it gives
+pub table-list : (h : Option Bool → Bool) (table : Option Bool → Option Bool → Option Bool) (f g : Bool → Bool → Option Bool) (a v b w out : List ℕ) (p q r s n len : ℕ)
+    → AreOfTable h table (value_at f a p v q) (value_at g b r w s) out n → len ≤ n
+    → bitmap out 0 len ≡ map h (combined_nullable table (placed f (bitmap a p len) (bitmap v q len)) (placed g (bitmap b r len) (bitmap w s len)))
+table-list h table f g a v b w out p q r s n len are enough =
+    let long : (bytes : List ℕ) (p : ℕ) → length (bitmap bytes p len) ≡ len = λ bytes p. length-values (record { bytes = bytes; offset = p; len = len }) in
+    let x : List (Option Bool) = placed f (bitmap a p len) (bitmap v q len) in
+    let y : List (Option Bool) = placed g (bitmap b r len) (bitmap w s len) in
+    let long_x : length x ≡ len = length-placed f (bitmap a p len) (bitmap v q len) (long a p ∙ sym (long v q)) ∙ long a p in
+    let long_y : length y ≡ len = length-placed g (bitmap b r len) (bitmap w s len) (long b r ∙ sym (long w s)) ∙ long b r in
+    let long_xy : length (map h (combined_nullable table x y)) ≡ len = length-table h table x y (long_x ∙ sym long_y) ∙ long_x in
+    let one : (f : Bool → Bool → Option Bool) (a v : List ℕ) (p q i : ℕ) → i < len → get_or (placed f (bitmap a p len) (bitmap v q len)) i None ≡ value_at f a p v q i
+    = λ f a v p q i h. placed_value f a v p q len i h in
+    values_from_front out (map h (combined_nullable table x y)) len long_xy (λ i below.
+    are i (omega arith) ∙ grind (arith, one f a v p q i below, one g b w r s i below) ∙ sym (get_or-table h table x y i (omega (arith, long_x)) (long_x ∙ sym long_y)))
+
+-- bytes from that of the first bit on have the list
+pub bitmap-from_byte : (bytes part : List ℕ) (p low len : ℕ) → part ≡ drop (p / 8) bytes → low ≡ p % 8 → bitmap part low len ≡ bitmap bytes p len
+bitmap-from_byte bytes part p low len is_part is_low =
+    let v : Packed = record { bytes = part; offset = low; len = len } in
+    let w : Packed = record { bytes = bytes; offset = p; len = len } in
+    values_from_bits v (values w) (length-values w) (λ i h. grind (arith, get_or-values w i false h, is_part, is_low, backing_bit-drop bytes p i))
+
+-- where there is no validity, the values themselves stand in its place
+pub placed-itself : (m : List Bool) → placed always_valid m m ≡ nullable m None
+placed-itself [] = refl
+placed-itself (x ∷ m) = ap (λ (xs : List (Option Bool)). Some x ∷ xs) (placed-itself m)
+
+pub ruleset table_lists = (bitmap-from_byte, placed-itself)
 
 pub ruleset nullable_words = (words-present, words-absent, words-and, words-or, words-valid)

@@ -1,7 +1,10 @@
 //! Kleene's tables of two lists with nulls, value by value, over plain bytes.
 
-ghost use Rattle.std.specs.Prelude.{◌≡◌, ◌+◌, ◌-◌, ◌*◌, ◌/◌, ◌<◌, ◌≤◌, ℕ, Bool, true, List, Option, min, length};
-ghost use Rattle.mask_bits.specs.Kleene.{always_valid, placed, value_at, AreWordsOf, AreWithinBytes, BeginInFirstByte, IsOfTable};
+ghost use Rattle.std.specs.Option.{ForSome};
+ghost use Rattle.std.specs.Prelude.{drop, ◌≡◌, ◌+◌, ◌-◌, ◌*◌, ◌/◌, ◌%◌, ◌<◌, ◌≤◌, ℕ, Bool, true, List, Option, min, length};
+ghost use Rattle.mask_bits.specs.Bitmap.{bitmap};
+ghost use Rattle.mask_bits.specs.Buffer.{IsWithinBytes};
+ghost use Rattle.mask_bits.specs.Kleene.{nullable_bitmap, always_valid, placed, value_at, AreWordsOf, AreWithinBytes, BeginInFirstByte, IsOfTable};
 ghost use Rattle.mask_bits.specs.Nullable.{and_kleene, or_kleene, combined_nullable, nullable_value, is_true_of, is_valid_of};
 ghost use Rattle.mask_bits.specs.Words.{word_bits, window, started_words};
 
@@ -126,6 +129,23 @@ struct NullableBits<'a> {
 }
 
 impl<'a> NullableBits<'a> {
+    // The bits from two positions in some bytes on.
+    #[inline]
+    fn new(values: (&'a [u8], usize), validity: (&'a [u8], usize)) -> NullableBits<'a>
+        requires values { values.1 / 8 ≤ length values.0.now }
+        requires validity { validity.1 / 8 ≤ length validity.0.now }
+        ensures values { result.values.bytes.now ≡ drop (values.entry.1 / 8) values.entry.0.now }
+        ensures values_low { result.values.low ≡ values.entry.1 % 8 }
+        ensures validity { result.validity.bytes.now
+            ≡ drop (validity.entry.1 / 8) validity.entry.0.now }
+        ensures validity_low { result.validity.low ≡ validity.entry.1 % 8 }
+    {
+        NullableBits {
+            values: Bits::new(values.0, values.1),
+            validity: Bits::new(validity.0, validity.1),
+        }
+    }
+
     // Whether both begin at a whole byte.
     #[inline]
     fn begin_whole(self) -> bool
@@ -229,7 +249,7 @@ fn extend<C: KleeneOp, R: ReadWord, V: Validity, W: Validity>(
     }
 }
 
-// The same of the `len` values from the first bits on.
+// Writes what the table has for the `len` values from the first bits on.
 fn combine_bits<C: KleeneOp, V: Validity, W: Validity>(
     a: NullableBits<'_>,
     b: NullableBits<'_>,
@@ -245,14 +265,83 @@ fn combine_bits<C: KleeneOp, V: Validity, W: Validity>(
     requires few_b { BeginInFirstByte b.values.low b.validity.low }
     requires room { 8 * started_words len ≤ length values.old }
     requires validity_room { 8 * started_words len ≤ length validity.old }
-    ensures { IsOfTable C.table
-        (value_at V.place a.entry.values.bytes.now a.entry.values.low
-        a.entry.validity.bytes.now a.entry.validity.low)
-        (value_at W.place b.entry.values.bytes.now b.entry.values.low
-        b.entry.validity.bytes.now b.entry.validity.low)
-        values.new validity.new len }
+    ensures values { bitmap values.new 0 len ≡ is_true_of (combined_nullable C.table
+        (placed V.place (bitmap a.entry.values.bytes.now a.entry.values.low len)
+            (bitmap a.entry.validity.bytes.now a.entry.validity.low len))
+        (placed W.place (bitmap b.entry.values.bytes.now b.entry.values.low len)
+            (bitmap b.entry.validity.bytes.now b.entry.validity.low len))) }
+    ensures validity { bitmap validity.new 0 len ≡ is_valid_of (combined_nullable C.table
+        (placed V.place (bitmap a.entry.values.bytes.now a.entry.values.low len)
+            (bitmap a.entry.validity.bytes.now a.entry.validity.low len))
+        (placed W.place (bitmap b.entry.values.bytes.now b.entry.values.low len)
+            (bitmap b.entry.validity.bytes.now b.entry.validity.low len))) }
 {
     let (whole, words) = (len / 64, started_words(len));
     extend_whole::<C, V, W>(a, b, whole, values, validity);
     extend::<C, Anywhere, V, W>(a, b, whole, words, values, validity);
+}
+
+/// Truth values with nulls, over plain bytes: the bytes of the values and the position of the first, and
+/// those of the validity, where there is one.
+#[derive(Clone, Copy)]
+pub struct NullableBitmap<'a> {
+    pub values: (&'a [u8], usize),
+    pub validity: Option<(&'a [u8], usize)>,
+}
+
+/// Writes what the table of `C` has for each of the `len` values of `a` and of `b` to the front of
+/// `values` and `validity`, which are room of whole words. Where the table has a null, the value is
+/// false. The bits past the list have no meaning.
+// rust: wide level if len > 128
+#[tactic(auto, using(crate::proofs::KleeneLemmas::table_lists))]
+pub fn combine_kleene<C: KleeneOp>(
+    a: NullableBitmap<'_>,
+    b: NullableBitmap<'_>,
+    len: usize,
+    values: &mut [u8],
+    validity: &mut [u8],
+)
+    requires a_within { IsWithinBytes a.values.0.now a.values.1 len }
+    requires b_within { IsWithinBytes b.values.0.now b.values.1 len }
+    requires a_validity_within { ForSome a.validity (λ v. IsWithinBytes v.0.now v.1 len) }
+    requires b_validity_within { ForSome b.validity (λ v. IsWithinBytes v.0.now v.1 len) }
+    requires room { 8 * started_words len ≤ length values.old }
+    requires validity_room { 8 * started_words len ≤ length validity.old }
+    ensures values { bitmap values.new 0 len ≡ is_true_of (combined_nullable C.table
+        (nullable_bitmap a.entry.values a.entry.validity len)
+        (nullable_bitmap b.entry.values b.entry.validity len)) }
+    ensures validity { bitmap validity.new 0 len ≡ is_valid_of (combined_nullable C.table
+        (nullable_bitmap a.entry.values a.entry.validity len)
+        (nullable_bitmap b.entry.values b.entry.validity len)) }
+{
+    match (a.validity, b.validity) {
+        (Some(v), Some(w)) => combine_bits::<C, Present, Present>(
+            NullableBits::new(a.values, v),
+            NullableBits::new(b.values, w),
+            len,
+            values,
+            validity,
+        ),
+        (Some(v), None) => combine_bits::<C, Present, Absent>(
+            NullableBits::new(a.values, v),
+            NullableBits::new(b.values, b.values),
+            len,
+            values,
+            validity,
+        ),
+        (None, Some(w)) => combine_bits::<C, Absent, Present>(
+            NullableBits::new(a.values, a.values),
+            NullableBits::new(b.values, w),
+            len,
+            values,
+            validity,
+        ),
+        (None, None) => combine_bits::<C, Absent, Absent>(
+            NullableBits::new(a.values, a.values),
+            NullableBits::new(b.values, b.values),
+            len,
+            values,
+            validity,
+        ),
+    }
 }
