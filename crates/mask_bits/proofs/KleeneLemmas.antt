@@ -1,12 +1,11 @@
 -- The words that the loop over two lists with nulls reads and writes.
-use Rattle.mask_bits.proofs.Common.{◌≡◌, ℕ, zero, suc, ◌+◌, ◌*◌, ◌-◌, ◌<◌, ◌≤◌, ◌⊎◌, ◌^◌, not, Bool, true, false, ◌&&◌, ◌||◌, List, [], ◌∷◌, length, get_or, map, zip, Option, None, Some, refl, sym, ap, ◌∙◌, inl, inr, cases_lt, arith, ◌/◌, ◌%◌, drop, bitmap, Packed, values, bit_and, bit_or, bit_not, w64, ext_get_or, combined, and_of, or_of, not_of, and_not_of, backing_bit, word_bits, window, length-map, get_or-map}
-use Rattle.std.specs.Option.{is_some}
+use Rattle.mask_bits.proofs.Common.{◌≡◌, ℕ, zero, suc, ◌+◌, ◌*◌, ◌-◌, ◌<◌, ◌≤◌, ◌⊎◌, ◌^◌, Bool, true, false, ◌&&◌, ◌||◌, List, [], ◌∷◌, length, get_or, map, Option, None, Some, refl, sym, ap, ◌∙◌, inl, inr, cases_lt, arith, ◌/◌, ◌%◌, drop, bitmap, Packed, values, bit_and, bit_or, bit_not, w64, ext_get_or, and_of, or_of, not_of, backing_bit, word_bits, window, get_or-map}
 use Rattle.mask_bits.specs.Kleene.{always_valid, is_false, placed, value_at, AreWordsOf, AreOfTable}
 use Rattle.mask_bits.specs.Nullable.{and_kleene, or_kleene, is_true, nullable, nullable_value, combined_nullable, is_true_of, is_valid_of}
 use Rattle.mask_bits.proofs.BufferLemmas.{length-values, get_or-values, values_from_bits, values_from_front}
 use Rattle.mask_bits.proofs.CombineLemmas.{word_bits-combined, backing_bit-drop}
-use Rattle.mask_bits.proofs.Lists.BooleanLemmas.{length-combined, get_or-combined, length-not_of}
-use Rattle.mask_bits.proofs.Lists.NullableLemmas.{by_values, by_values_2, map_combined}
+use Rattle.mask_bits.proofs.Lists.BooleanLemmas.{length-not_of}
+use Rattle.mask_bits.proofs.Lists.NullableLemmas.{by_values_2, map_combined}
 use Rattle.mask_bits.proofs.Lists.Words.FrontLemmas.{length-window, get_or-window}
 use Rattle.mask_bits.proofs.Lists.Words.ShiftLemmas.{get_or-word_bits_and, get_or-word_bits_or, get_or-word_bits_not}
 use Rattle.mask_bits.proofs.Lists.Words.WordLemmas.{length-word_bits}

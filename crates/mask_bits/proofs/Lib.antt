@@ -15,6 +15,7 @@ mod KleeneLemmas
 mod LawRows
 mod LawRules
 pub mod Lists
+mod NullableBufferLemmas
 mod NumberLemmas
 mod RunWalkLemmas
 mod RunWordLemmas

@@ -9,6 +9,7 @@ pub mod Kleene
 pub mod Laws
 pub mod Lists
 pub mod Nullable
+pub mod NullableBuffer
 pub mod Number
 pub mod Positions
 pub mod Pushed

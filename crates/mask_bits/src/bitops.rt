@@ -105,7 +105,7 @@ impl BitBuffer {
 
 // A buffer of what `C` makes of two.
 #[tactic(auto, using(crate::proofs::CombineLemmas::combined_buffers))]
-fn combined_buffer<C: BitOp>(
+pub(crate) fn combined_buffer<C: BitOp>(
     alloc: Global,
     a: &BitBuffer,
     b: &BitBuffer,

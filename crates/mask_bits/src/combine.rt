@@ -32,6 +32,10 @@ pub struct Or;
 #[derive(Drop)]
 pub struct AndNot;
 
+/// True in the first, or not in the second.
+#[derive(Drop)]
+pub struct OrNot;
+
 /// True in one, and not in the other.
 #[derive(Drop)]
 pub struct Xor;
@@ -67,6 +71,16 @@ impl BitOp for AndNot {
     #[inline]
     fn of(x: u64, y: u64) -> u64 {
         x & !y
+    }
+}
+
+impl BitOp for OrNot {
+    ghost of_bits = { λ x y. x || not y };
+
+    #[tactic(auto, using(crate::proofs::CompareLemmas::word_operations))]
+    #[inline]
+    fn of(x: u64, y: u64) -> u64 {
+        x | !y
     }
 }
 

@@ -267,14 +267,14 @@ fn combine_bits<C: KleeneOp, V: Validity, W: Validity>(
     requires validity_room { 8 * started_words len ≤ length validity.old }
     ensures values { bitmap values.new 0 len ≡ is_true_of (combined_nullable C.table
         (placed V.place (bitmap a.entry.values.bytes.now a.entry.values.low len)
-            (bitmap a.entry.validity.bytes.now a.entry.validity.low len))
+        (bitmap a.entry.validity.bytes.now a.entry.validity.low len))
         (placed W.place (bitmap b.entry.values.bytes.now b.entry.values.low len)
-            (bitmap b.entry.validity.bytes.now b.entry.validity.low len))) }
+        (bitmap b.entry.validity.bytes.now b.entry.validity.low len))) }
     ensures validity { bitmap validity.new 0 len ≡ is_valid_of (combined_nullable C.table
         (placed V.place (bitmap a.entry.values.bytes.now a.entry.values.low len)
-            (bitmap a.entry.validity.bytes.now a.entry.validity.low len))
+        (bitmap a.entry.validity.bytes.now a.entry.validity.low len))
         (placed W.place (bitmap b.entry.values.bytes.now b.entry.values.low len)
-            (bitmap b.entry.validity.bytes.now b.entry.validity.low len))) }
+        (bitmap b.entry.validity.bytes.now b.entry.validity.low len))) }
 {
     let (whole, words) = (len / 64, started_words(len));
     extend_whole::<C, V, W>(a, b, whole, values, validity);

@@ -33,6 +33,7 @@ mod from_rows;
 #[doc(hidden)]
 pub mod kleene;
 pub mod laws;
+mod nullable;
 // rust: replaced by native::processor
 #[doc(hidden)]
 pub mod processor;
@@ -62,5 +63,6 @@ pub use bit_iterator::BitIterator;
 pub use buffer::BitBuffer;
 pub use buffer_mut::BitBufferMut;
 pub use chunks::{BitChunks, PaddedWords, Words};
+pub use nullable::NullableBitBuffer;
 pub use set_indices::SetIndices;
 pub use set_slices::SetSlices;

@@ -1,7 +1,7 @@
 -- What holds of `and`, `or` and `not` of truth values with nulls, and of what a filter keeps.
-use Rattle.std.specs.Prelude.{◌≡◌, ℕ, Bool, false, List, Option, None, Some, slice_get}
+use Rattle.std.specs.Prelude.{◌≡◌, ℕ, Bool, false, List, Option, None, Some, length, slice_get}
 use Rattle.mask_bits.specs.Lists.{and_of, or_of, not_of}
-use Rattle.mask_bits.specs.Nullable.{and_kleene_of, or_kleene_of, not_kleene_of, is_true_of, is_not_false_of, nullable}
+use Rattle.mask_bits.specs.Nullable.{and_kleene_of, or_kleene_of, not_kleene_of, is_true_of, is_not_false_of, is_null_of, nullable}
 
 -- `not` of `and` is `or` of both negated, and `not` of `or` is `and` of both negated
 pub record IsDeMorgan : Type 0 where
@@ -32,3 +32,9 @@ pub record IsPlainWithoutNulls : Type 0 where
   pub or : (a b : List Bool) → or_kleene_of (nullable a None) (nullable b None) ≡ nullable (or_of a b) None
   pub not : (a : List Bool) → not_kleene_of (nullable a None) ≡ nullable (not_of a) None
   pub is_true : (a : List Bool) → is_true_of (nullable a None) ≡ a
+
+-- what is true, what isn't false and what is null, of values and their validity
+pub record IsByParts : Type 0 where
+  pub is_true : (values validity : List Bool) → is_true_of (nullable values (Some validity)) ≡ and_of values validity
+  pub is_not_false : (values validity : List Bool) → is_not_false_of (nullable values (Some validity)) ≡ or_of values (not_of validity)
+  pub is_null : (values validity : List Bool) → length validity ≡ length values → is_null_of (nullable values (Some validity)) ≡ not_of validity

@@ -1,6 +1,6 @@
 //! Laws of truth values with nulls.
 
-ghost use Rattle.mask_bits.specs.Laws.Nullable.{IsDeMorgan, IsTrueOfParts, KeepsNoNull, IsNotTwice, IsNotFalseOfNot, IsPlainWithoutNulls};
+ghost use Rattle.mask_bits.specs.Laws.Nullable.{IsDeMorgan, IsTrueOfParts, KeepsNoNull, IsNotTwice, IsNotFalseOfNot, IsPlainWithoutNulls, IsByParts};
 
 /// `not` of Kleene's `and` is his `or` of both negated, and the other way round.
 #[tactic(auto, using(crate::proofs::Lists::NullableLemmas::de_morgan))]
@@ -36,4 +36,10 @@ pub fn kleene_is_not_false_of_not()
 #[tactic(auto, using(crate::proofs::Lists::NullableLemmas::plain_without_nulls))]
 pub fn kleene_without_nulls()
     ensures plain { IsPlainWithoutNulls }
+{}
+
+/// What a filter keeps, what a check lets pass and what is null, by the values and their validity.
+#[tactic(auto, using(crate::proofs::Lists::NullableLemmas::by_parts))]
+pub fn kleene_by_parts()
+    ensures parts { IsByParts }
 {}

@@ -1,4 +1,3 @@
-use Rattle.mask_bits.proofs.Common.{refl, ap, ◌∙◌}
 use Rattle.std.specs.Option.{is_some}
 use Rattle.mask_bits.specs.Nullable.{is_true}
 use Rattle.mask_bits.proofs.KleeneLemmas.{AreOfTable-step}
