@@ -38,7 +38,7 @@ is_true (Some true) = true
 is_true (Some false) = false
 is_true None = false
 
--- nor is it false
+-- what a check lets pass: a null isn't false
 abbrev pub is_not_false : Option Bool → Bool
 is_not_false (Some true) = true
 is_not_false (Some false) = false
@@ -58,24 +58,30 @@ nullable values (Some validity) = map (λ v. nullable_value v.0 v.1) (zip values
 abbrev pub combined_nullable : (Option Bool → Option Bool → Option Bool) → List (Option Bool) → List (Option Bool) → List (Option Bool)
 combined_nullable f a b = map (λ v. f v.0 v.1) (zip a b)
 
--- the tables of each two values, and of each value
+-- `and` of the two values at each index
 abbrev pub and_kleene_of : List (Option Bool) → List (Option Bool) → List (Option Bool)
 and_kleene_of a b = combined_nullable and_kleene a b
 
+-- `or` of the two values at each index
 abbrev pub or_kleene_of : List (Option Bool) → List (Option Bool) → List (Option Bool)
 or_kleene_of a b = combined_nullable or_kleene a b
 
+-- each value negated
 abbrev pub not_kleene_of : List (Option Bool) → List (Option Bool)
 not_kleene_of a = map not_kleene a
 
+-- which values are true
 abbrev pub is_true_of : List (Option Bool) → List Bool
 is_true_of a = map is_true a
 
+-- which values are true or null
 abbrev pub is_not_false_of : List (Option Bool) → List Bool
 is_not_false_of a = map is_not_false a
 
+-- which values are null
 abbrev pub is_null_of : List (Option Bool) → List Bool
 is_null_of a = map is_none a
 
+-- which values are not null
 abbrev pub is_valid_of : List (Option Bool) → List Bool
 is_valid_of a = map is_some a

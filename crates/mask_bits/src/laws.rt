@@ -16,7 +16,7 @@ pub use boolean::{
 pub use indices::{count_below_position, positions_determine_list};
 pub use nullable::{
     kleene_by_parts, kleene_de_morgan, kleene_filter_keeps_no_null, kleene_is_not_false_of_not,
-    kleene_is_true, kleene_not_twice, kleene_without_nulls,
+    kleene_is_true, kleene_not_twice, kleene_row_by_row, kleene_without_nulls,
 };
 pub use parts::{limit_count, limit_of_limit, part_of_concat, part_of_part};
 pub use rank_intersection::{

@@ -140,10 +140,7 @@ impl NullableBitBuffer {
                 values: validity.bitand_not(alloc, &self.values)?,
                 validity: Some(validity.clone()?),
             }),
-            None => Ok(NullableBitBuffer {
-                values: self.values.not(alloc)?,
-                validity: None,
-            }),
+            None => Ok(all_valid(self.values.not(alloc)?)),
         }
     }
 
@@ -164,10 +161,7 @@ impl NullableBitBuffer {
             → IfOk result (λ b. b.validity ≡ None) }
     {
         match (&self.validity, &other.validity) {
-            (None, None) => Ok(NullableBitBuffer {
-                values: self.values.bitand(alloc, &other.values)?,
-                validity: None,
-            }),
+            (None, None) => Ok(all_valid(self.values.bitand(alloc, &other.values)?)),
             _ => combined_by_table::<KleeneAnd>(alloc, self, other),
         }
     }
@@ -189,10 +183,7 @@ impl NullableBitBuffer {
             → IfOk result (λ b. b.validity ≡ None) }
     {
         match (&self.validity, &other.validity) {
-            (None, None) => Ok(NullableBitBuffer {
-                values: self.values.bitor(alloc, &other.values)?,
-                validity: None,
-            }),
+            (None, None) => Ok(all_valid(self.values.bitor(alloc, &other.values)?)),
             _ => combined_by_table::<KleeneOr>(alloc, self, other),
         }
     }
@@ -218,6 +209,13 @@ impl NullableBitBuffer {
             },
         }
     }
+}
+
+// Values without a null.
+fn all_valid(values: BitBuffer) -> NullableBitBuffer
+    ensures { result ≡ record { values = values; validity = None } }
+{
+    NullableBitBuffer::new(values, None)
 }
 
 // What the table of `C` has for the values of two lists, with a validity.

@@ -1,7 +1,8 @@
 -- What holds of lists of truth values with nulls: Kleene's laws, at each place, and the two lists that tell where they are true and false.
-use Rattle.mask_bits.proofs.Common.{◌≡◌, suc, Bool, true, false, not, ◌&&◌, ◌||◌, List, [], ◌∷◌, length, map, zip, Option, None, Some, slice_get-map, refl, ap, ◌∙◌, arith, repeated, combined, and_of, or_of, not_of, and_not_of}
-use Rattle.mask_bits.specs.Laws.Nullable.{IsDeMorgan, IsTrueOfParts, KeepsNoNull, IsNotTwice, IsNotFalseOfNot, IsPlainWithoutNulls, IsByParts}
-use Rattle.mask_bits.specs.Nullable.{and_kleene, or_kleene, not_kleene, is_true, is_not_false, nullable, combined_nullable, not_kleene_of, is_true_of, is_not_false_of, is_null_of, is_valid_of}
+use Rattle.mask_bits.proofs.Common.{◌≡◌, suc, Bool, true, false, not, ◌&&◌, ◌||◌, List, [], ◌∷◌, length, map, zip, Option, None, Some, slice_get-map, refl, ap, ◌∙◌, arith, chosen, repeated, combined, and_of, or_of, not_of, and_not_of}
+use Rattle.mask_bits.specs.Laws.Nullable.{IsDeMorgan, IsTrueOfParts, KeepsNoNull, IsNotTwice, IsNotFalseOfNot, IsPlainWithoutNulls, IsByParts, IsRowByRow}
+use Rattle.mask_bits.proofs.Lists.RowLemmas.{chosen_by_test}
+use Rattle.mask_bits.specs.Nullable.{and_kleene, or_kleene, not_kleene, is_true, is_not_false, nullable_value, nullable, combined_nullable, not_kleene_of, is_true_of, is_not_false_of, is_null_of, is_valid_of}
 
 -- ---- the tables
 
@@ -190,4 +191,32 @@ by_parts = record {
   is_true = true-both;
   is_not_false = λ m v. not_false-both m v ∙ or-not m v;
   is_null = null-both;
+}
+
+-- ---- row by row
+
+nullable-rows : {T : Type 0} (rows : List T) (value valid : T → Bool) (test : T → Option Bool) → ((row : T) → nullable_value (value row) (valid row) ≡ test row) → nullable (map value rows) (Some (map valid rows)) ≡ map test rows
+nullable-rows [] value valid test same = refl
+nullable-rows {T} (r ∷ rows) value valid test same = grind (arith, nullable-rows rows value valid test same, same r)
+
+somes-rows : {T : Type 0} (rows : List T) (value : T → Bool) → nullable (map value rows) None ≡ map (λ row. Some (value row)) rows
+somes-rows [] value = refl
+somes-rows (r ∷ rows) value = ap (λ (xs : List (Option Bool)). Some (value r) ∷ xs) (somes-rows rows value)
+
+table-rows : {T : Type 0} (t : Option Bool → Option Bool → Option Bool) (rows : List T) (f g : T → Option Bool) → combined_nullable t (map f rows) (map g rows) ≡ map (λ row. t (f row) (g row)) rows
+table-rows t [] f g = refl
+table-rows t (r ∷ rows) f g = ap (λ (xs : List (Option Bool)). t (f r) (g r) ∷ xs) (table-rows t rows f g)
+
+map-rows : {T A : Type 0} (h : Option Bool → A) (rows : List T) (f : T → Option Bool) → map h (map f rows) ≡ map (λ row. h (f row)) rows
+map-rows h [] f = refl
+map-rows {T} {A} h (r ∷ rows) f = ap (λ (xs : List A). h (f r) ∷ xs) (map-rows h rows f)
+
+pub row_by_row : {T : Type 0} → IsRowByRow T
+row_by_row = record {
+  with_validity = nullable-rows;
+  all_valid = somes-rows;
+  and = table-rows and_kleene;
+  or = table-rows or_kleene;
+  not = map-rows not_kleene;
+  kept = λ rows f. ap (chosen rows) (map-rows is_true rows f) ∙ chosen_by_test rows (λ row. is_true (f row));
 }

@@ -1,7 +1,8 @@
 -- What holds of `and`, `or` and `not` of truth values with nulls, and of what a filter keeps.
-use Rattle.std.specs.Prelude.{◌≡◌, ℕ, Bool, false, List, Option, None, Some, length, slice_get}
+use Rattle.std.specs.Prelude.{◌≡◌, ℕ, Bool, false, List, Option, None, Some, filter, length, map, slice_get}
 use Rattle.mask_bits.specs.Lists.{and_of, or_of, not_of}
-use Rattle.mask_bits.specs.Nullable.{and_kleene_of, or_kleene_of, not_kleene_of, is_true_of, is_not_false_of, is_null_of, nullable}
+use Rattle.mask_bits.specs.Positions.{chosen}
+use Rattle.mask_bits.specs.Nullable.{and_kleene, or_kleene, not_kleene, is_true, nullable_value, and_kleene_of, or_kleene_of, not_kleene_of, is_true_of, is_not_false_of, is_null_of, nullable}
 
 -- `not` of `and` is `or` of both negated, and `not` of `or` is `and` of both negated
 pub record IsDeMorgan : Type 0 where
@@ -38,3 +39,12 @@ pub record IsByParts : Type 0 where
   pub is_true : (values validity : List Bool) → is_true_of (nullable values (Some validity)) ≡ and_of values validity
   pub is_not_false : (values validity : List Bool) → is_not_false_of (nullable values (Some validity)) ≡ or_of values (not_of validity)
   pub is_null : (values validity : List Bool) → length validity ≡ length values → is_null_of (nullable values (Some validity)) ≡ not_of validity
+
+-- tests of each of some rows: a test of values and of their validity, the tables of two tests, and what a filter keeps
+pub record IsRowByRow (T : Type 0) : Type 0 where
+  pub with_validity : (rows : List T) (value valid : T → Bool) (test : T → Option Bool) → ((row : T) → nullable_value (value row) (valid row) ≡ test row) → nullable (map value rows) (Some (map valid rows)) ≡ map test rows
+  pub all_valid : (rows : List T) (value : T → Bool) → nullable (map value rows) None ≡ map (λ row. Some (value row)) rows
+  pub and : (rows : List T) (f g : T → Option Bool) → and_kleene_of (map f rows) (map g rows) ≡ map (λ row. and_kleene (f row) (g row)) rows
+  pub or : (rows : List T) (f g : T → Option Bool) → or_kleene_of (map f rows) (map g rows) ≡ map (λ row. or_kleene (f row) (g row)) rows
+  pub not : (rows : List T) (f : T → Option Bool) → not_kleene_of (map f rows) ≡ map (λ row. not_kleene (f row)) rows
+  pub kept : (rows : List T) (f : T → Option Bool) → chosen rows (is_true_of (map f rows)) ≡ filter (λ row. is_true (f row)) rows

@@ -1,6 +1,6 @@
 //! Laws of truth values with nulls.
 
-ghost use Rattle.mask_bits.specs.Laws.Nullable.{IsDeMorgan, IsTrueOfParts, KeepsNoNull, IsNotTwice, IsNotFalseOfNot, IsPlainWithoutNulls, IsByParts};
+ghost use Rattle.mask_bits.specs.Laws.Nullable.{IsDeMorgan, IsTrueOfParts, KeepsNoNull, IsNotTwice, IsNotFalseOfNot, IsPlainWithoutNulls, IsByParts, IsRowByRow};
 
 /// `not` of Kleene's `and` is his `or` of both negated, and the other way round.
 #[tactic(auto, using(crate::proofs::Lists::NullableLemmas::de_morgan))]
@@ -42,4 +42,10 @@ pub fn kleene_without_nulls()
 #[tactic(auto, using(crate::proofs::Lists::NullableLemmas::by_parts))]
 pub fn kleene_by_parts()
     ensures parts { IsByParts }
+{}
+
+/// What Kleene's tables make of two tests of each row, and which rows a filter keeps.
+#[tactic(auto, using(crate::proofs::Lists::NullableLemmas::row_by_row))]
+pub fn kleene_row_by_row<T>()
+    ensures rows { IsRowByRow T }
 {}

@@ -16,7 +16,7 @@ returns-in_ok-clone-in-Some-clause-cleared c =
 
 pub returns-in_ok-not-in-None-clause-list : goal.returns-in_ok-not-in-None-clause-list
 returns-in_ok-not-in-None-clause-list c =
-    rw (← c.self.view_is, c.in-None.is, c.in_ok-not-in-None.ensures.list) (sym (plain_not _))
+    rw (c.all_valid.ensures, ← c.self.view_is, c.in-None.is, c.in_ok-not-in-None.ensures.list) (sym (plain_not _))
 
 pub returns-in_ok-not-in-None-clause-cleared : goal.returns-in_ok-not-in-None-clause-cleared
-returns-in_ok-not-in-None-clause-cleared c = sym (plain_is_true _)
+returns-in_ok-not-in-None-clause-cleared c = rw c.all_valid.ensures (sym (plain_is_true _))
