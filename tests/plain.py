@@ -100,6 +100,13 @@ def combined(name, a, b):
     return bits_of(OPERATIONS[name](word_of(a), word_of(b)), len(a))
 
 
+def kleene(name, a, b):
+    """Kleene's table of two lists with nulls, as `1?0`: what decides it alone, or else a null, or else the other value."""
+    decides = "0" if name == "and_kleene" else "1"
+    found = ({x, y} for x, y in zip(a, b))
+    return "".join(decides if decides in it else "?" if "?" in it else negated(decides) for it in found)
+
+
 def narrowed(rows, ranks):
     """The values of `rows`, of which true value number n stays where value n of `ranks` is true."""
     between = rows.split("1")

@@ -2,7 +2,7 @@
 masks and densities go by fixed streams of words; the others look at lengths and offsets where the code has a branch."""
 from plain import (
     ALONE, MAX, ODD, OPERATIONS, THREE_IN_FIVE, TWO_IN_THREE, answer, at_rows, bits_of, cached_text, combined, drawn,
-    flag, index_text, indices, list_text, mask, mask_text, narrowed, narrowed_mask, negated, negated_at, rank_path,
+    flag, index_text, indices, kleene, list_text, mask, mask_text, narrowed, narrowed_mask, negated, negated_at, rank_path,
     ranges, repeating, steps_text, text, walk_text, word_of, words, words_of,
 )
 
@@ -273,6 +273,43 @@ def words_at_random(first, end):
             yield from (f"select {places:#x} {rank} -> {place}" for rank, place in enumerate(indices(at_places)))
 
 
+# ---- truth values with nulls
+
+def nullable_word(values, held, offsets):
+    """A list with nulls as an operand: with what its values hold at nulls; without a validity if none is asked for."""
+    one, other = offsets
+    kept = "".join(bit if it == "?" else it for it, bit in zip(values, held))
+    valid = "".join("0" if it == "?" else "1" for it in values)
+    return f"{one}+{text(kept)}" + (f"/{other}~{text(valid)}" if other is not None else "")
+
+
+def nullable_text(values, is_all_valid=False):
+    return text(values) if is_all_valid else f"{text(values)} of {text(values.replace('?', '0'))}"
+
+
+def nullable_pairs(length):
+    """Two lists with nulls, whose bits and validities begin at any bits of their bytes, and of which one or both may be
+    without a validity: each pair of values stands in each nine."""
+    held = one_drawn(length, ODD)
+    nines = ["10?"[n % 3] + "10?"[n // 3 % 3] for n in range(length)]
+    for n, (p, q) in enumerate((p, q) for p in OFFSETS for q in OFFSETS):
+        a, b = ("".join(it[i] for it in nines) for i in (0, 1))
+        of_a, of_b = ((p + 3 * q) % 9, (q + 2 * p + length) % 9)
+        if n % 4 in (1, 3):
+            a, of_a = a.replace("?", "1"), None
+        if n % 4 in (2, 3):
+            b, of_b = b.replace("?", "0"), None
+        x, y = nullable_word(a, held, (p, of_a)), nullable_word(b, held[::-1], (q, of_b))
+        for name in ("and_kleene", "or_kleene"):
+            yield f"nullable.{name} {x} {y} => {nullable_text(kleene(name, a, b), of_a is None and of_b is None)}"
+        yield f"nullable.not {x} => {nullable_text(negated(a), of_a is None)}"
+        yield f"nullable.is_true {x} => {text(a.replace('?', '0'))}"
+        yield f"nullable.is_not_false {x} => {text(a.replace('?', '1'))}"
+        yield f"nullable.is_null {x} => {text(''.join(str(int(it == '?')) for it in a))}"
+        yield f"nullable.null_count {x} => {a.count('?')}"
+        yield f"from_nullable {x} => {mask_text(mask(a.replace('?', '0')))}"
+
+
 # ---- kernels
 
 def by_each_kernel(rows, ranks):
@@ -343,6 +380,7 @@ SECTIONS = {
     "masks of one value": ([*zip([0, 1, 63, 64, 65, 200])], masks_of_one_value),
     "buffers": ([*zip(range(130, -1, -1))], buffers),
     "boolean calls": ([*zip([0, 1, 63, 64, 65, 128, 129, 130])], pairs_of_offsets),
+    "nulls": ([*zip(range(200, -1, -1))], nullable_pairs),
     "builders": ([*zip([*range(9), 62, 63, 64, 65, 66, 10_003])], builders),
     "words": ([(n, n + 5_000) for n in range(0, 20_000, 5_000)], words_at_random),
     "runs": ([()], runs),

@@ -165,7 +165,7 @@ fn bit_parts(name: &str, o: &mut Operands, text: &mut Text) -> Found {
 
 // Of two buffers, and of one by value.
 fn bit_pairs(name: &str, o: &mut Operands, text: &mut Text) -> Found {
-    calls! { name, o, text, alloc, else made(name, o, text);
+    calls! { name, o, text, alloc, else nullable(name, o, text);
         "bits.bitand" (x y) [x.len() == y.len(), "equal lengths"] => x.bitand(alloc, y),
         "bits.bitor" (x y) [x.len() == y.len(), "equal lengths"] => x.bitor(alloc, y),
         "bits.bitand_not" (x y) [x.len() == y.len(), "equal lengths"] => x.bitand_not(alloc, y),
@@ -176,6 +176,21 @@ fn bit_pairs(name: &str, o: &mut Operands, text: &mut Text) -> Found {
         "bits.into_bitor" (taken_x y) [taken_x.len() == y.len(), "equal lengths"] => taken_x.into_bitor(alloc, y),
         "bits.into_bitand_not" (taken_x y) [taken_x.len() == y.len(), "equal lengths"]
             => taken_x.into_bitand_not(alloc, y),
+    }
+}
+
+// Of truth values with nulls.
+fn nullable(name: &str, o: &mut Operands, text: &mut Text) -> Found {
+    calls! { name, o, text, alloc, else made(name, o, text);
+        "nullable.len" (v) => v.len(),
+        "nullable.null_count" (v) => v.null_count(),
+        "nullable.not" (v) => v.not(alloc),
+        "nullable.is_true" (v) => v.is_true(alloc),
+        "nullable.is_not_false" (v) => v.is_not_false(alloc),
+        "nullable.is_null" (v) => v.is_null(alloc),
+        "nullable.and_kleene" (v w) [v.len() == w.len(), "equal lengths"] => v.and_kleene(alloc, w),
+        "nullable.or_kleene" (v w) [v.len() == w.len(), "equal lengths"] => v.or_kleene(alloc, w),
+        "from_nullable" (v) => Mask::from_nullable(alloc, v),
     }
 }
 

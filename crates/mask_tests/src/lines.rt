@@ -46,6 +46,8 @@ macro_rules! operand {
     ($o:ident, changed_values, $alloc:ident) => { $crate::lines::there!(&mut $o.values.it) };
     ($o:ident, rows, $alloc:ident) => { $crate::lines::there!(&$o.rows) };
     ($o:ident, ranks, $alloc:ident) => { $crate::lines::there!(&$o.ranks) };
+    ($o:ident, v, $alloc:ident) => { $crate::lines::there!(&$o.v) };
+    ($o:ident, w, $alloc:ident) => { $crate::lines::there!(&$o.w) };
     ($o:ident, builder, $alloc:ident) => { $crate::lines::there!(&mut $o.builder) };
     ($o:ident, list, $alloc:ident) => { &$o.list };
     ($o:ident, flags, $alloc:ident) => { &$o.flags };

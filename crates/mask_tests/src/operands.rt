@@ -3,12 +3,13 @@
 use crate::builder::BuilderCall;
 use crate::held::{Held, Use};
 use crate::listed::{Listed, Ranged};
+use crate::nullable::write_nullable;
 use crate::packed;
 use crate::text::Text;
 use crate::walks::write_backed;
 use crate::words::Words;
 use crate::written::{write_mask, write_mixed};
-use mask_bits::BitBuffer;
+use mask_bits::{BitBuffer, NullableBitBuffer};
 use std::alloc::Global;
 use vortex_mask::{Fraction, Mask, MaskValues};
 
@@ -24,6 +25,8 @@ pub struct Operands {
     pub(crate) values: Held<Option<MaskValues>>,
     pub(crate) x: Held<BitBuffer>,
     pub(crate) y: Held<BitBuffer>,
+    pub(crate) v: Option<NullableBitBuffer>,
+    pub(crate) w: Option<NullableBitBuffer>,
     pub(crate) rows: Option<Listed>,
     pub(crate) ranks: Option<Listed>,
     pub(crate) ranged: Option<Ranged>,
@@ -50,6 +53,8 @@ impl Operands {
             values: Held::new(None),
             x: Held::new(packed::empty()),
             y: Held::new(packed::empty()),
+            v: None,
+            w: None,
             rows: None,
             ranks: None,
             ranged: None,
@@ -87,6 +92,8 @@ impl Operands {
             "x" => self.x.read(words, Use::Lent),
             "y" => self.y.read(words, Use::Lent),
             "taken_x" => self.x.read(words, Use::Taken),
+            "v" => words.read(&mut self.v),
+            "w" => words.read(&mut self.w),
             "rows" => words.read(&mut self.rows),
             "ranks" => words.read(&mut self.ranks),
             "taken_ranged" => words.read_all(&mut self.ranged),
@@ -127,6 +134,11 @@ impl Operands {
         self.values.write_kept(text, is_refused);
         self.x.write_kept(text, is_refused);
         self.y.write_kept(text, is_refused);
+        for nullable in [&self.v, &self.w] {
+            if let Some(nullable) = nullable {
+                write_nullable(text, nullable);
+            }
+        }
         for listed in [&self.rows, &self.ranks] {
             if let Some(listed) = listed {
                 write_backed(text, &listed.buffer);

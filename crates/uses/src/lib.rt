@@ -3,6 +3,7 @@
 
 pub mod column_filter;
 pub mod lent_lists;
+pub mod nulls;
 pub mod own_deposit;
 pub mod planner;
 pub mod row_groups;

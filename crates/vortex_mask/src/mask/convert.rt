@@ -6,6 +6,8 @@ ghost use Rattle.std.specs.Iterator.{UpTo, Drains};
 ghost use Rattle.std.specs.Iterator.Runs.{WholeRun};
 ghost use Rattle.vortex_mask.specs.AllOr.{all_or_copied, IsListOf};
 ghost use Rattle.mask_bits.specs.Buffer.{values};
+ghost use Rattle.mask_bits.specs.Nullable.{is_true_of};
+ghost use Rattle.mask_bits.specs.NullableBuffer.{nullable_values};
 ghost use Rattle.mask_bits.specs.Rows.{AreAnswers, AreAsComputed};
 ghost use Rattle.vortex_mask.specs.Caches.{caches, where_mixed};
 ghost use Rattle.vortex_mask.specs.Mask.{truth, variant, fitting_variant, all_false, IsUniform, held_buffer};
@@ -16,7 +18,7 @@ ghost use Rattle.mask_bits.specs.Runs.{AreRanges};
 
 use crate::mask::from_slices::merge_touching;
 use crate::mask::{AllOr, Mask, MaskError, MaskValues};
-use mask_bits::BitBuffer;
+use mask_bits::{BitBuffer, NullableBitBuffer};
 use std::alloc::Global;
 
 /// From packed or single values.
@@ -33,6 +35,20 @@ impl Mask {
     {
         let true_count = buffer.true_count();
         Mask::from_counted_buffer(alloc, buffer, true_count, None)
+    }
+
+    /// The values that are true, which are those that a filter keeps: no null is one. None at all give
+    /// `AllFalse(0)`.
+    // rust: named try_from_nullable
+    pub fn from_nullable(alloc: Global, answers: &NullableBitBuffer) -> Result<Mask, MaskError>
+        ensures list { IfOk result (λ m. truth m ≡ is_true_of (nullable_values answers.now)) }
+        ensures variant { IfOk result (λ m. variant m
+            ≡ fitting_variant all_false (is_true_of (nullable_values answers.now))) }
+        ensures caches { IfOk result (λ m. caches m ≡ no_caches) }
+        ensures refused { IsOkUnless result (MaskError.Memory alloc_error) }
+    {
+        let kept = answers.is_true(alloc)?;
+        Mask::from_buffer(alloc, kept)
     }
 
     /// The values of a buffer, whose true indices these ranges hold. Where some values are true and
