@@ -1,1 +1,2 @@
+pub mod Nulls
 pub mod RowGroups

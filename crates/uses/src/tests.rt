@@ -1,6 +1,7 @@
 // Each caller once, by an example whose answer is known. What no clause of the library says, and no row of text makes,
 // comes last.
 use crate::own_deposit::{InTurn, rank_intersection_by};
+use crate::nulls::{self, Row};
 use crate::{column_filter, lent_lists, planner, row_groups, validity};
 use bytes::Bytes;
 use mask_bits::BitBuffer;
@@ -163,6 +164,23 @@ fn chooses_by_all(rt: &impl Host, first: &Mask, rest: &[Mask]) {
 #[test]
 fn rows_of_a_stack(rt: HostRuntime) {
     chooses_by_all(&rt, &mask(&rt, "10011101"), &masks(&rt, &["00101", "10"]));
+}
+
+// ---- nulls
+
+fn keeps(rt: &impl Host, a: Option<u64>, b: Option<u64>, is_kept: bool) {
+    let kept = found(rt, nulls::kept(rt.alloc(), &[Row { a, b }], 5));
+    assert!(rt; kept.len() == is_kept as usize);
+}
+
+#[test]
+fn rows_of_a_condition_with_nulls(rt: HostRuntime) {
+    keeps(&rt, Some(5), Some(1), true);
+    keeps(&rt, Some(6), Some(1), false);
+    keeps(&rt, Some(5), None, false);
+    keeps(&rt, Some(6), None, false);
+    keeps(&rt, None, Some(1), false);
+    keeps(&rt, None, None, false);
 }
 
 // ---- validity
