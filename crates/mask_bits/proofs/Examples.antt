@@ -1,5 +1,6 @@
 -- Worked examples of the words that make lists of truth values, computed by the checker.
-use Rattle.mask_bits.proofs.Common.{ℕ, ◌≡◌, ◌<◌, Bool, true, false, List, [], ◌∷◌, slice_range, refl, arith, beq, pointwise, true_at, IsFirstFrom, AreRanges, AreRuns, IsStack, folded_left, folded_right, word_bits, window, and_of, or_of, not_of, and_not_of, concat, limited, positions, count_below, rank_intersection, repeated, chosen, values}
+use Rattle.mask_bits.proofs.Common.{ℕ, ◌≡◌, ◌<◌, Bool, true, false, List, [], ◌∷◌, Option, None, Some, slice_range, refl, arith, beq, pointwise, true_at, IsFirstFrom, AreRanges, AreRuns, IsStack, folded_left, folded_right, word_bits, window, and_of, or_of, not_of, and_not_of, concat, limited, positions, count_below, rank_intersection, repeated, chosen, values}
+use Rattle.mask_bits.specs.Nullable.{and_kleene_of, or_kleene_of, not_kleene_of, is_true_of, is_not_false_of, is_null_of, nullable}
 use Rattle.mask_bits.proofs.Lists.Runs.RangeLemmas.{ranges_add_up_to_the_count}
 use Rattle.mask_bits.proofs.Lists.Runs.RunLemmas.{AreRuns-runs_from, runs_are_ranges}
 
@@ -21,6 +22,31 @@ and_not_example = refl
 
 not_example : not_of a ≡ false ∷ false ∷ true ∷ true ∷ []
 not_example = refl
+
+-- each three values with each three: true, false and null
+abbrev x : List (Option Bool)
+x = Some true ∷ Some true ∷ Some true ∷ Some false ∷ Some false ∷ Some false ∷ None ∷ None ∷ None ∷ []
+
+abbrev y : List (Option Bool)
+y = Some true ∷ Some false ∷ None ∷ Some true ∷ Some false ∷ None ∷ Some true ∷ Some false ∷ None ∷ []
+
+and_kleene_example : and_kleene_of x y ≡ Some true ∷ Some false ∷ None ∷ Some false ∷ Some false ∷ Some false ∷ None ∷ Some false ∷ None ∷ []
+and_kleene_example = refl
+
+or_kleene_example : or_kleene_of x y ≡ Some true ∷ Some true ∷ Some true ∷ Some true ∷ Some false ∷ None ∷ Some true ∷ None ∷ None ∷ []
+or_kleene_example = refl
+
+nullable_example : not_kleene_of (nullable a (Some b)) ≡ Some false ∷ None ∷ Some true ∷ None ∷ []
+nullable_example = refl
+
+kept_example : is_true_of (nullable a (Some b)) ≡ true ∷ false ∷ false ∷ false ∷ []
+kept_example = refl
+
+let_pass_example : is_not_false_of (nullable a (Some b)) ≡ true ∷ true ∷ false ∷ true ∷ []
+let_pass_example = refl
+
+null_example : is_null_of (nullable a (Some b)) ≡ false ∷ true ∷ false ∷ true ∷ []
+null_example = refl
 
 -- and-not takes the second list's values away, and not the first's
 and_not_turned : pointwise beq (and_not_of a b) (and_not_of b a) ≡ false

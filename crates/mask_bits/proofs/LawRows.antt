@@ -1,9 +1,11 @@
 -- What the laws that stand for themselves say of lists that are known: each row takes a law, and computes one instance of it.
-use Rattle.mask_bits.proofs.Common.{ℕ, ◌≡◌, Bool, true, false, List, [], ◌∷◌, length, nat_lt, slice_range, refl, arith, slice_index, slice_index_or, and_of, or_of, not_of, and_not_of, concat, limited, positions, count, count_below, rank_intersection, repeated, AreAnswers, AreAsComputed, AreRanges, AreRuns}
+use Rattle.mask_bits.proofs.Common.{ℕ, ◌≡◌, Bool, true, false, List, [], ◌∷◌, length, nat_lt, slice_range, slice_get, Option, None, Some, refl, sym, arith, slice_index, slice_index_or, and_of, or_of, not_of, and_not_of, concat, limited, positions, count, count_below, rank_intersection, repeated, AreAnswers, AreAsComputed, AreRanges, AreRuns}
 use Rattle.mask_bits.specs.Laws.Boolean.{IsFreeOfOrder, DistributesOver, Absorbs, HasComplements, AndNotIsAndOfNot}
 use Rattle.mask_bits.specs.Laws.Indices.{PositionsDetermineList, CountBelowPosition}
+use Rattle.mask_bits.specs.Laws.Nullable.{IsDeMorgan, IsTrueOfParts, KeepsNoNull, IsNotTwice, IsNotFalseOfNot, IsPlainWithoutNulls, IsByParts}
 use Rattle.mask_bits.specs.Laws.Parts.{PartOfPart, PartOfConcat, LimitOfLimit, HasLimitCount}
 use Rattle.mask_bits.specs.Laws.RankIntersection.{IsRankIntersection, RankIntersectionIsTheList, RankIntersectionValue, AllTrueLeftUnit, AllTrueRightUnit, RankIntersectionPosition, RankIntersectionOfAnd, RankIntersectionOfNot}
+use Rattle.mask_bits.specs.Nullable.{and_kleene_of, or_kleene_of, not_kleene_of, is_true_of, is_not_false_of, is_null_of, nullable}
 use Rattle.mask_bits.specs.Laws.Runs.{RunsExist, RunsAreUnique, RunsAreRanges}
 
 -- 10101, and 011 and 010 over its true values
@@ -95,6 +97,42 @@ complement_twice law = law.twice
 
 and_not_is_and_of_not : AndNotIsAndOfNot → (a : List Bool) → and_not_of a b ≡ and_of a (true ∷ false ∷ false ∷ [])
 and_not_is_and_of_not law a = law a b
+
+-- ---- with nulls, of a list that isn't known and one that is
+
+-- true, false and null
+abbrev n : List (Option Bool)
+n = Some true ∷ Some false ∷ None ∷ []
+
+not_and_of_nulls : IsDeMorgan → (a : List (Option Bool)) → not_kleene_of (and_kleene_of a n) ≡ or_kleene_of (not_kleene_of a) (Some false ∷ Some true ∷ None ∷ [])
+not_and_of_nulls law a = law.not_and a n
+
+not_or_of_nulls : IsDeMorgan → (a : List (Option Bool)) → not_kleene_of (or_kleene_of a n) ≡ and_kleene_of (not_kleene_of a) (Some false ∷ Some true ∷ None ∷ [])
+not_or_of_nulls law a = law.not_or a n
+
+kept_of_and : IsTrueOfParts → (a : List (Option Bool)) → is_true_of (and_kleene_of a n) ≡ and_of (is_true_of a) (true ∷ false ∷ false ∷ [])
+kept_of_and law a = law.and a n
+
+kept_of_or : IsTrueOfParts → (a : List (Option Bool)) → is_true_of (or_kleene_of a n) ≡ or_of (is_true_of a) (true ∷ false ∷ false ∷ [])
+kept_of_or law a = law.or a n
+
+null_is_not_kept : KeepsNoNull → (a : List (Option Bool)) → slice_get a 2 ≡ Some None → slice_get (is_true_of (not_kleene_of a)) 2 ≡ Some false
+null_is_not_kept law a null = law.not a 2 null
+
+not_of_nulls_twice : IsNotTwice → (a : List (Option Bool)) → not_kleene_of (not_kleene_of a) ≡ a
+not_of_nulls_twice law = law
+
+let_pass : IsNotFalseOfNot → is_not_false_of n ≡ true ∷ false ∷ true ∷ []
+let_pass law = law n
+
+and_without_nulls : IsPlainWithoutNulls → and_kleene_of (nullable b None) (nullable c None) ≡ nullable (false ∷ true ∷ false ∷ []) None
+and_without_nulls law = law.and b c
+
+kept_by_parts : IsByParts → (a : List Bool) → is_true_of (nullable a (Some b)) ≡ and_of a b
+kept_by_parts law a = law.is_true a b
+
+nulls_by_parts : IsByParts → (a : List Bool) → length a ≡ 3 → is_null_of (nullable a (Some b)) ≡ true ∷ false ∷ false ∷ []
+nulls_by_parts law a len = law.is_null a b (sym len)
 
 -- ---- parts and limits
 

@@ -206,9 +206,38 @@ fn extend_whole<C: KleeneOp, V: Validity, W: Validity>(
         extend::<C, Whole, V, W>(a, b, 0, words, values, validity);
     } else {
         let inner = a.neighbors().min(b.neighbors()).min(words);
-        extend::<C, Neighbors, V, W>(a, b, 0, inner, values, validity);
+        extend_inner::<C, V, W>(a, b, inner, values, validity);
         extend::<C, Unaligned, V, W>(a, b, inner, words, values, validity);
     }
+}
+
+// Writes words beside which there is another one.
+// rust: shifted level
+fn extend_inner<C: KleeneOp, V: Validity, W: Validity>(
+    a: NullableBits<'_>,
+    b: NullableBits<'_>,
+    words: usize,
+    values: &mut [u8],
+    validity: &mut [u8],
+)
+    requires a_goes_on { (i : ℕ) → i < words → 8 * i + 16 ≤ length a.values.bytes.now }
+    requires a_validity_goes_on { (i : ℕ) → i < words
+        → 8 * i + 16 ≤ length a.validity.bytes.now }
+    requires b_goes_on { (i : ℕ) → i < words → 8 * i + 16 ≤ length b.values.bytes.now }
+    requires b_validity_goes_on { (i : ℕ) → i < words
+        → 8 * i + 16 ≤ length b.validity.bytes.now }
+    requires few_a { BeginInFirstByte a.values.low a.validity.low }
+    requires few_b { BeginInFirstByte b.values.low b.validity.low }
+    requires room { 8 * words ≤ length values.old }
+    requires validity_room { 8 * words ≤ length validity.old }
+    ensures { IsOfTable C.table
+        (value_at V.place a.entry.values.bytes.now a.entry.values.low
+        a.entry.validity.bytes.now a.entry.validity.low)
+        (value_at W.place b.entry.values.bytes.now b.entry.values.low
+        b.entry.validity.bytes.now b.entry.validity.low)
+        values.new validity.new (64 * words) }
+{
+    extend::<C, Neighbors, V, W>(a, b, 0, words, values, validity);
 }
 
 // Writes words `from` to `to`, where those before are written.
