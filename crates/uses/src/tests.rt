@@ -1,7 +1,7 @@
 // Each caller once, by an example whose answer is known. What no clause of the library says, and no row of text makes,
 // comes last.
-use crate::own_deposit::{InTurn, rank_intersection_by};
 use crate::nulls::{self, Row};
+use crate::own_deposit::{InTurn, rank_intersection_by};
 use crate::{column_filter, lent_lists, planner, row_groups, validity};
 use bytes::Bytes;
 use mask_bits::BitBuffer;
