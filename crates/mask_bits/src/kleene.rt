@@ -319,8 +319,8 @@ pub struct NullableBitmap<'a> {
 }
 
 /// Writes what the table of `C` has for each of the `len` values of `a` and of `b` to the front of
-/// `values` and `validity`, which are room of whole words. Where the table has a null, the value is
-/// false. The bits past the list have no meaning.
+/// `values` and `validity`, which are room of whole words: eight bytes for each started 64 values. Where
+/// the table has a null, the value is false. The bits past the list have no meaning.
 // rust: wide level if len > 128
 #[tactic(auto, using(crate::proofs::KleeneLemmas::table_lists))]
 pub fn combine_kleene<C: KleeneOp>(

@@ -18,10 +18,13 @@ use crate::words::started_words;
 use std::alloc::{AllocError, Global};
 use std::marker::Model;
 
-/// An immutable list of truth values of which some are null: values, and their validity.
+/// An immutable list of truth values of which some are null: values, and as long a validity.
 ///
 /// Value `i` is null where the validity is false at `i`, and what the values hold there has no meaning.
 /// Where there is no validity, no value is null. Bits lie as in an Arrow array of booleans.
+///
+/// Its calls answer as SQL does, by Kleene's tables. They are this library's own. A list that a call makes
+/// is as long as its operands, and the call is refused only where memory is missing (`AllocError`).
 #[derive(Drop)]
 pub struct NullableBitBuffer {
     values: BitBuffer,
@@ -121,8 +124,8 @@ impl NullableBitBuffer {
     }
 }
 
-/// Kleene's tables. Where neither side has a validity, the answer has none; else its values are false at
-/// each null.
+/// Kleene's tables, in one pass over the words of both sides. Where neither has a validity, the answer has
+/// none. Its values are false at each null, so they are what `is_true` makes of it.
 #[tactic(auto, using(crate::proofs::NullableBufferLemmas::buffer_facts))]
 impl NullableBitBuffer {
     /// The negation of each value: that of a null is null.

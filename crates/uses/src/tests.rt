@@ -168,19 +168,19 @@ fn rows_of_a_stack(rt: HostRuntime) {
 
 // ---- nulls
 
-fn keeps(rt: &impl Host, a: Option<u64>, b: Option<u64>, is_kept: bool) {
+fn keeps_row(rt: &impl Host, a: Option<u64>, b: Option<u64>, is_kept: bool) {
     let kept = found(rt, nulls::kept(rt.alloc(), &[Row { a, b }], 5));
     assert!(rt; kept.len() == is_kept as usize);
 }
 
 #[test]
 fn rows_of_a_condition_with_nulls(rt: HostRuntime) {
-    keeps(&rt, Some(5), Some(1), true);
-    keeps(&rt, Some(6), Some(1), false);
-    keeps(&rt, Some(5), None, false);
-    keeps(&rt, Some(6), None, false);
-    keeps(&rt, None, Some(1), false);
-    keeps(&rt, None, None, false);
+    keeps_row(&rt, Some(5), Some(1), true);
+    keeps_row(&rt, Some(6), Some(1), false);
+    keeps_row(&rt, Some(5), None, false);
+    keeps_row(&rt, Some(6), None, false);
+    keeps_row(&rt, None, Some(1), false);
+    keeps_row(&rt, None, None, false);
 }
 
 // ---- validity
