@@ -71,6 +71,7 @@ class Condition:
             (r"IsStrictlyIncreasing (\S+)", lambda it: self.ascending(self.place(it), self.place(it))),
             (r"IsNonDecreasing (\S+)", self.sorted),
             (r"IsWithinBytes (\S+) (\S+) (\S+)", self.within),
+            (r"AreInStep (\w+) (\w+)", self.in_step),
             (r"IsStack \(truth self\.now ∷ map truth (\w+)\.now\)", self.stack),
             (r"AreRanges \(values (\w+)\) (\w+)\.items", self.ranges),
             (r"EachRunFrom \w+\.next_gives (\w+) IsAscending", self.ascending_items),
@@ -108,6 +109,10 @@ class Condition:
     def within(self, *operands):
         items, offset, count = map(self.place, operands)
         return f'need_within({items}, {offset}, {count}, "{self.says(f"`{offset} + {count} <= 8 * {items}.len()`")}")'
+
+    def in_step(self, values, validity):
+        needs = self.says(f"`{validity}` as long as `{values}`")
+        return f'need_in_step(&{values}, {validity}.as_ref(), "{needs}")'
 
     def stack(self, masks):
         return f'need_stack(self, {masks}, "{self.says(f"each mask as long as the one before it has true values")}")'

@@ -126,6 +126,9 @@ class Test:
             case Apply("IsWithinBytes", [of, offset, count]):
                 of, offset, count = place(of), place(offset), place(count)
                 return f"within({of}, {offset}, {count}, {self.needs(f'`{offset} + {count} <= 8 * {of}.len()`')})"
+            case Apply("AreInStep", [values, validity]):
+                needs = self.needs(f"`{validity}` as long as `{values}`")
+                return f"in_step(&{values}, {validity}.as_ref(), {needs})"
             case Apply("IsStack", [Within(Binary("∷", Apply("truth", ["self.now"]), Apply("map", ["truth", masks])))]):
                 needs = self.needs("each mask as long as the one before it has true values")
                 return f"stack(self, {place(masks)}, {needs})"
@@ -206,7 +209,7 @@ class Test:
     def listed_values(self, of):
         """What has the values that are counted: a list, or the values of a buffer or of a mask."""
         match bare(of):
-            case Apply("values" | "truth", [it]):
+            case Apply("values" | "nullable_values" | "truth", [it]):
                 return place(it)
             case it:
                 return place(it)

@@ -61,6 +61,24 @@ pub(crate) fn need_equal<N: Copy + Display + PartialEq>(one: N, other: N, said: 
     }
 }
 
+/// Stops unless a validity, if there is one, is as long as the values.
+#[inline]
+#[track_caller]
+pub(crate) fn need_in_step(values: &BitBuffer, validity: Option<&BitBuffer>, needs: &'static str) {
+    if let Some(validity) = validity
+        && validity.len() != values.len()
+    {
+        not_in_step(validity.len(), values.len(), needs);
+    }
+}
+
+#[cold]
+#[inline(never)]
+#[track_caller]
+fn not_in_step(validity: usize, values: usize, needs: &'static str) -> ! {
+    panic!("row_mask: {needs}{validity} is not {values}");
+}
+
 #[cold]
 #[inline(never)]
 #[track_caller]

@@ -33,7 +33,7 @@ pub use kit::{AllocError, Bytes};
 #[doc(hidden)]
 pub use proved::mask_bits::BitBufferMut;
 pub use proved::mask_bits::{
-    BitBuffer, BitChunks, BitIterator, PaddedWords, SetIndices, SetSlices, Words,
+    BitBuffer, BitChunks, BitIterator, NullableBitBuffer, PaddedWords, SetIndices, SetSlices, Words,
 };
 pub use proved::vortex_mask::{
     AllOr, Fraction, Mask, MaskBoolIter, MaskError, MaskIter, MaskSetIndices, MaskSetSlices,

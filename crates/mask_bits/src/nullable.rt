@@ -12,6 +12,7 @@ ghost use Rattle.std.specs.Option.{ForSome, option_map};
 
 use crate::bitops::combined_buffer;
 use crate::buffer::BitBuffer;
+use crate::byte_list::ByteList;
 use crate::combine::OrNot;
 use crate::kleene::{KleeneAnd, KleeneOp, KleeneOr, NullableBitmap, combine_kleene};
 use crate::words::started_words;
@@ -262,8 +263,8 @@ fn write_by_table<C: KleeneOp>(
 
 // The first `len` bits of bytes, with those of others as their validity.
 fn with_validity(
-    values: Vec<u8>,
-    validity: Vec<u8>,
+    values: ByteList,
+    validity: ByteList,
     len: usize,
 ) -> Result<NullableBitBuffer, AllocError>
     requires covered { len ≤ 8 * vec_len values }
@@ -271,8 +272,8 @@ fn with_validity(
     ensures { IfOk result (λ b. (b.values ≡ record { bytes = values.items; offset = 0; len = len })
         × (b.validity ≡ Some (record { bytes = validity.items; offset = 0; len = len }))) }
 {
-    let values = BitBuffer::from_vec(values, len)?;
-    let validity = BitBuffer::from_vec(validity, len)?;
+    let values = BitBuffer::from_list(values, len)?;
+    let validity = BitBuffer::from_list(validity, len)?;
     Ok(NullableBitBuffer {
         values,
         validity: Some(validity),

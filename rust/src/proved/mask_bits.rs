@@ -29,6 +29,9 @@ mod eq;
 pub mod extract;
 pub(crate) mod from_rows;
 #[doc(hidden)]
+pub mod kleene;
+mod nullable;
+#[doc(hidden)]
 pub(crate) use crate::native::processor;
 #[doc(hidden)]
 pub mod push_rows;
@@ -54,5 +57,6 @@ pub use bit_iterator::BitIterator;
 pub use buffer::BitBuffer;
 pub use buffer_mut::BitBufferMut;
 pub use chunks::{BitChunks, PaddedWords, Words};
+pub use nullable::NullableBitBuffer;
 pub use set_indices::SetIndices;
 pub use set_slices::SetSlices;

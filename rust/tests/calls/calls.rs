@@ -162,7 +162,7 @@ fn bit_parts(name: &str, o: &mut Operands, text: &mut Text) -> Found {
 
 // Of two buffers, and of one by value.
 fn bit_pairs(name: &str, o: &mut Operands, text: &mut Text) -> Found {
-    calls! { name, o, text, else made(name, o, text);
+    calls! { name, o, text, else nullable(name, o, text);
         "bits.bitand" (x y) [x.len() == y.len(), "equal lengths"] => x.try_bitand(y),
         "bits.bitor" (x y) [x.len() == y.len(), "equal lengths"] => x.try_bitor(y),
         "bits.bitand_not" (x y) [x.len() == y.len(), "equal lengths"] => x.try_bitand_not(y),
@@ -173,6 +173,21 @@ fn bit_pairs(name: &str, o: &mut Operands, text: &mut Text) -> Found {
         "bits.into_bitor" (taken_x y) [taken_x.len() == y.len(), "equal lengths"] => taken_x.try_into_bitor(y),
         "bits.into_bitand_not" (taken_x y) [taken_x.len() == y.len(), "equal lengths"]
             => taken_x.try_into_bitand_not(y),
+    }
+}
+
+// Of truth values with nulls.
+fn nullable(name: &str, o: &mut Operands, text: &mut Text) -> Found {
+    calls! { name, o, text, else made(name, o, text);
+        "nullable.len" (v) => v.len(),
+        "nullable.null_count" (v) => v.null_count(),
+        "nullable.not" (v) => v.try_not(),
+        "nullable.is_true" (v) => v.try_is_true(),
+        "nullable.is_not_false" (v) => v.try_is_not_false(),
+        "nullable.is_null" (v) => v.try_is_null(),
+        "nullable.and_kleene" (v w) [v.len() == w.len(), "equal lengths"] => v.try_and_kleene(w),
+        "nullable.or_kleene" (v w) [v.len() == w.len(), "equal lengths"] => v.try_or_kleene(w),
+        "from_nullable" (v) => Mask::try_from_nullable(v),
     }
 }
 

@@ -72,6 +72,12 @@ macro_rules! operand {
     ($o:ident, ranks) => {
         $crate::lines::there!(&$o.ranks)
     };
+    ($o:ident, v) => {
+        $crate::lines::there!(&$o.v)
+    };
+    ($o:ident, w) => {
+        $crate::lines::there!(&$o.w)
+    };
     ($o:ident, builder) => {
         $crate::lines::there!(&mut $o.builder)
     };

@@ -6,13 +6,14 @@ use crate::builder::BuilderCall;
 use crate::held::{Held, Use};
 use crate::host::{AllocGlobal, Input, Print};
 use crate::listed::{Listed, Ranged};
+use crate::nullable::write_nullable;
 use crate::packed;
 use crate::text::Text;
 use crate::walks::write_backed;
 use crate::words::Words;
 use crate::written::{write_mask, write_mixed};
-use ::row_mask::BitBuffer;
 use ::row_mask::kit::prelude::*;
+use ::row_mask::{BitBuffer, NullableBitBuffer};
 
 use ::row_mask::{Fraction, Mask, MaskValues};
 
@@ -26,6 +27,8 @@ pub struct Operands {
     pub(crate) values: Held<Option<MaskValues>>,
     pub(crate) x: Held<BitBuffer>,
     pub(crate) y: Held<BitBuffer>,
+    pub(crate) v: Option<NullableBitBuffer>,
+    pub(crate) w: Option<NullableBitBuffer>,
     pub(crate) rows: Option<Listed>,
     pub(crate) ranks: Option<Listed>,
     pub(crate) ranged: Option<Ranged>,
@@ -51,6 +54,8 @@ impl Operands {
             values: Held::new(None),
             x: Held::new(packed::empty()),
             y: Held::new(packed::empty()),
+            v: None,
+            w: None,
             rows: None,
             ranks: None,
             ranged: None,
@@ -88,6 +93,8 @@ impl Operands {
             "x" => self.x.read(words, Use::Lent),
             "y" => self.y.read(words, Use::Lent),
             "taken_x" => self.x.read(words, Use::Taken),
+            "v" => words.read(&mut self.v),
+            "w" => words.read(&mut self.w),
             "rows" => words.read(&mut self.rows),
             "ranks" => words.read(&mut self.ranks),
             "taken_ranged" => words.read_all(&mut self.ranged),
@@ -128,6 +135,11 @@ impl Operands {
         self.values.write_kept(text, is_refused);
         self.x.write_kept(text, is_refused);
         self.y.write_kept(text, is_refused);
+        for nullable in [&self.v, &self.w] {
+            if let Some(nullable) = nullable {
+                write_nullable(text, nullable);
+            }
+        }
         for listed in [&self.rows, &self.ranks] {
             if let Some(listed) = listed {
                 write_backed(text, &listed.buffer);

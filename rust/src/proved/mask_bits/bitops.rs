@@ -228,7 +228,10 @@ impl BitBuffer {
 
 // A buffer of what `C` makes of two.
 #[inline]
-fn combined_buffer<C: BitOp>(a: &BitBuffer, b: &BitBuffer) -> Result<BitBuffer, AllocError> {
+pub(crate) fn combined_buffer<C: BitOp>(
+    a: &BitBuffer,
+    b: &BitBuffer,
+) -> Result<BitBuffer, AllocError> {
     let len = a.len();
     let mut out = crate::kit::filled(0u8, 8 * started_words(len))?;
     combine::<C>(a.bits(), a.offset(), b.bits(), b.offset(), len, &mut out);

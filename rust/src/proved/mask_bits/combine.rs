@@ -19,6 +19,9 @@ pub struct Or;
 /// True in the first, and not in the second.
 pub struct AndNot;
 
+/// True in the first, or not in the second.
+pub struct OrNot;
+
 /// True in one, and not in the other.
 pub struct Xor;
 
@@ -43,6 +46,13 @@ impl BitOp for AndNot {
     #[inline(always)]
     fn of(x: u64, y: u64) -> u64 {
         x & !y
+    }
+}
+
+impl BitOp for OrNot {
+    #[inline(always)]
+    fn of(x: u64, y: u64) -> u64 {
+        x | !y
     }
 }
 

@@ -2,7 +2,7 @@
 //! Masks from buffers and truth values, and buffers from masks.
 
 use crate::kit::prelude::*;
-use crate::proved::mask_bits::BitBuffer;
+use crate::proved::mask_bits::{BitBuffer, NullableBitBuffer};
 use crate::proved::vortex_mask::mask::from_slices::merge_touching;
 use crate::proved::vortex_mask::mask::{AllOr, Mask, MaskError, MaskValues};
 
@@ -28,6 +28,28 @@ impl Mask {
     pub(crate) fn from_buffer_proved(buffer: BitBuffer) -> Result<Mask, MaskError> {
         let true_count = buffer.true_count();
         Mask::from_counted_buffer(buffer, true_count, None)
+    }
+
+    /// The values that are true, which are those that a filter keeps: no null is one. None at all give
+    /// `AllFalse(0)`.
+    ///
+    /// [`from_nullable`](Self::from_nullable) is the same where missing memory ends the process, and has an example.
+    ///
+    /// # Proved ([terms](crate::definitions))
+    ///
+    /// - *list*: `IfOk result (λ m. truth m ≡ is_true_of (nullable_values answers.now))`
+    /// - *variant*: `IfOk result (λ m. variant m ≡ fitting_variant all_false (is_true_of (nullable_values answers.now)))`
+    /// - *caches*: `IfOk result (λ m. caches m ≡ no_caches)`
+    /// - *refused*: `IsOkUnless result (MaskError.Memory alloc_error)`
+    #[inline]
+    pub fn try_from_nullable(answers: &NullableBitBuffer) -> Result<Mask, MaskError> {
+        Mask::from_nullable_proved(answers)
+    }
+
+    #[inline]
+    pub(crate) fn from_nullable_proved(answers: &NullableBitBuffer) -> Result<Mask, MaskError> {
+        let kept = answers.is_true_proved()?;
+        Mask::from_buffer_proved(kept)
     }
 
     /// The values of a buffer, whose true indices these ranges hold. Where some values are true and
