@@ -5,6 +5,7 @@ mod answers;
 mod cached;
 mod calls;
 mod makers;
+mod nullable;
 mod operators;
 mod walks;
 

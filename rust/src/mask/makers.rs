@@ -3,7 +3,7 @@
 
 use crate::buffer::as_fn;
 use crate::memory::{accepted, granted};
-use crate::proved::mask_bits::BitBuffer;
+use crate::proved::mask_bits::{BitBuffer, NullableBitBuffer};
 use crate::proved::vortex_mask::Mask;
 use alloc::vec::Vec;
 
@@ -21,6 +21,21 @@ impl Mask {
     pub fn from_buffer(buffer: BitBuffer) -> Mask {
         let len = buffer.len();
         granted(Mask::try_from_buffer(buffer), len)
+    }
+
+    /// The values that are true, which are those that a filter keeps: no null is one. None at all give `AllFalse(0)`.
+    ///
+    /// ```
+    /// use row_mask::{Mask, NullableBitBuffer};
+    ///
+    /// let above = NullableBitBuffer::from_rows(&[Some(7), Some(3), None], |a| a.map(|a| a > 5));
+    /// assert_eq!(Mask::from_nullable(&above).to_string(), "100");
+    /// assert_eq!(Mask::from_nullable(&!above).to_string(), "010"); // a null is chosen by neither
+    /// ```
+    #[inline]
+    #[must_use]
+    pub fn from_nullable(answers: &NullableBitBuffer) -> Mask {
+        granted(Mask::try_from_nullable(answers), answers.len())
     }
 
     /// The values of a buffer whose true ones are all in these ranges, and no others. Those that touch are made one. The mask

@@ -14,6 +14,7 @@ mod held;
 mod lines;
 mod listed;
 mod mask_word;
+mod nullable;
 mod operands;
 mod packed;
 mod refused;

@@ -8,8 +8,10 @@ mod masks;
 
 use crate::said;
 use row_mask::{BitBuffer, Mask};
+use std::cell::RefCell;
 use std::fmt::Debug;
 use std::fs;
+use std::panic;
 use std::path::{Path, PathBuf};
 
 /// A call, one of its conditions (by no name where it is the only one), what it says where that is broken, calls that
@@ -48,6 +50,21 @@ fn done<T>(_: T) {}
 
 fn ok<T, E: Debug>(answer: Result<T, E>) {
     done(answer.unwrap());
+}
+
+thread_local! {
+    /// The file that this thread's last panic told as its place.
+    static PLACE: RefCell<String> = const { RefCell::new(String::new()) };
+}
+
+/// Has each panic note its place, and do then what it did.
+fn note_places() {
+    let before = panic::take_hook();
+    panic::set_hook(Box::new(move |told| {
+        let file = told.location().map_or("", |it| it.file());
+        PLACE.set(file.into());
+        before(told);
+    }));
 }
 
 /// A condition as the sources have it: the call, the name of the clause in its documentation, and what is said first
@@ -121,12 +138,15 @@ fn each_condition_is_tested() {
     stated.sort_unstable();
     assert_eq!(stated, named);
 
+    note_places();
     for (call, name, needs, broken, met) in rows().chain(masks::BY_HAND) {
         let is_never_broken = NEVER_BROKEN.iter().any(|it| (it.0, it.1) == (*call, *name));
         assert!(broken.is_empty() == is_never_broken && !met.is_empty(), "{call} {name}");
         for (i, (breaks, values)) in broken.iter().enumerate() {
             let wanted = Some(format!("row_mask: {needs}{values}"));
             assert_eq!(said(breaks), wanted, "{call} {name}: call {i} that breaks it");
+            let place = PLACE.take();
+            assert!(place.contains("mask/conditions/"), "{call} {name}: its caller's place, not {place}");
         }
         for (i, meets) in met.iter().enumerate() {
             assert_eq!(said(meets), None, "{call} {name}: call {i} that meets it");

@@ -7,6 +7,7 @@ mod faults;
 mod hashes;
 mod lists;
 mod makers;
+mod nullable;
 mod operators;
 mod plain;
 mod ranks;

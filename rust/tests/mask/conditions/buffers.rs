@@ -2,10 +2,14 @@
 
 use super::{Row, bits, done, ok, thirds};
 use row_mask::intersect_by_rank::RankBits;
-use row_mask::{BitBuffer, BitBufferMut, BitChunks, Bytes};
+use row_mask::{BitBuffer, BitBufferMut, BitChunks, Bytes, NullableBitBuffer};
 
 fn bytes() -> Bytes {
     Bytes::from(vec![0xA5; 2])
+}
+
+fn nullable(values: usize, validity: Option<usize>) -> NullableBitBuffer {
+    NullableBitBuffer::new(thirds(values), validity.map(thirds))
 }
 
 fn builder() -> BitBufferMut {
@@ -67,6 +71,30 @@ pub const ROWS: &[Row] = &[
             || done(BitBuffer::new_with_offset(bytes(), 9, 7)),
             || done(BitBuffer::new_with_offset(bytes(), 0, 0)),
         ],
+    ),
+    (
+        "NullableBitBuffer::new",
+        "",
+        "`new` needs `validity` as long as `values`: ",
+        &[
+            (|| done(nullable(2, Some(3))), "3 is not 2"),
+            (|| done(nullable(1, Some(0))), "0 is not 1"),
+        ],
+        &[|| done(nullable(2, Some(2))), || done(nullable(2, None))],
+    ),
+    (
+        "NullableBitBuffer::try_and_kleene",
+        "",
+        "`and_kleene` needs `self.len() == other.len()`: ",
+        &[(|| ok(nullable(2, None).try_and_kleene(&nullable(3, None))), "2 is not 3")],
+        &[|| ok(nullable(2, None).try_and_kleene(&nullable(2, Some(2))))],
+    ),
+    (
+        "NullableBitBuffer::try_or_kleene",
+        "",
+        "`or_kleene` needs `self.len() == other.len()`: ",
+        &[(|| ok(nullable(2, Some(2)).try_or_kleene(&nullable(3, None))), "2 is not 3")],
+        &[|| ok(nullable(2, None).try_or_kleene(&nullable(2, Some(2))))],
     ),
     (
         "BitBuffer::try_from_vec",
