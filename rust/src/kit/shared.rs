@@ -3,7 +3,7 @@
 use super::{AllocError, AllocFailed};
 use alloc::sync::Arc;
 use alloc::vec::Vec;
-use core::mem::ManuallyDrop;
+use core::mem::{ManuallyDrop, MaybeUninit};
 
 /// A clone that is refused where there is no memory for it.
 pub trait TryClone: Sized {
@@ -77,7 +77,7 @@ impl<T> TryClone for Arc<T> {
 pub fn shared<T>(value: T) -> Result<Arc<T>, AllocFailed<T>> {
     // (made where it stays: `new` moves it there)
     let value = ManuallyDrop::new(value);
-    let shared = Arc::<T>::new_uninit();
+    let shared: Arc<MaybeUninit<T>> = Arc::new_uninit();
     // SAFETY: nobody else has it, so it may be written, and it is there afterwards.
     unsafe {
         Arc::as_ptr(&shared).cast_mut().cast::<T>().write(ManuallyDrop::into_inner(value));

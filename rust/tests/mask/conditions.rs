@@ -146,7 +146,10 @@ fn each_condition_is_tested() {
             let wanted = Some(format!("row_mask: {needs}{values}"));
             assert_eq!(said(breaks), wanted, "{call} {name}: call {i} that breaks it");
             let place = PLACE.take();
-            assert!(place.contains("mask/conditions/"), "{call} {name}: its caller's place, not {place}");
+            assert!(
+                place.contains("mask/conditions/"),
+                "{call} {name}: its caller's place, not {place}"
+            );
         }
         for (i, meets) in met.iter().enumerate() {
             assert_eq!(said(meets), None, "{call} {name}: call {i} that meets it");
