@@ -9,7 +9,7 @@ use core::fmt;
 use core::hash::{Hash, Hasher};
 use core::mem::{self, ManuallyDrop};
 use core::ops::Deref;
-use core::ptr::NonNull;
+use core::ptr::{self, NonNull};
 use core::slice;
 use core::sync::atomic::{AtomicUsize, Ordering};
 
@@ -19,21 +19,16 @@ pub struct Bytes {
     held: Held,
 }
 
-/// The bytes themselves where they are few, and else where they lie. How many there are says which of both it is.
+/// The parts of a list of more than few bytes. Each holder has them, and only the last one makes the list of them again, which
+/// has one owner. Few bytes lie in the first two parts themselves. (A union is moved as a block, and right after its parts were
+/// written a processor waits for that.)
 #[derive(Clone, Copy)]
-union Held {
-    few: [u8; FEW],
-    shared: Shared,
-}
-
-/// The parts of a list of more bytes. Each holder has them, and only the last one makes the list of them again, which has
-/// one owner.
-#[derive(Clone, Copy)]
-struct Shared {
-    first: NonNull<u8>,
+#[repr(C)]
+struct Held {
+    first: *mut u8,
     capacity: usize,
     // how many holders there are: behind the bytes, where the list has room for that, and else in memory of its own
-    holders: NonNull<AtomicUsize>,
+    holders: *mut AtomicUsize,
 }
 
 // SAFETY: bytes that are shared are only read while there are several holders, whose number is atomic.
@@ -65,7 +60,7 @@ impl Bytes {
     #[must_use]
     #[inline]
     pub fn new() -> Bytes {
-        Bytes { len: 0, held: Held { few: [0; FEW] } }
+        Bytes::from(FewBytes::first([0; FEW], 0))
     }
 
     /// The bytes of a list, which aren't copied where they are more than 16.
@@ -83,31 +78,34 @@ impl Bytes {
     pub fn as_slice(&self) -> &[u8] {
         // (both are pointers, so that the compiler needs no branch)
         let first = match self.shared() {
-            Some(shared) => shared.first.as_ptr().cast_const(),
-            // SAFETY: they are few.
-            None => unsafe { self.held.few.as_ptr() },
+            Some(shared) => shared.first.cast_const(),
+            None => (&raw const self.held).cast(),
         };
-        // SAFETY: while there is a holder, so many bytes lie there, and nobody changes them or lets go of them.
+        // SAFETY: while there is a holder, so many bytes lie there, and nobody changes them or lets go of them. Few lie in
+        // the first parts, which are 16 bytes one behind the other.
         unsafe { slice::from_raw_parts(first, self.len) }
     }
 
     // Where more than few bytes lie.
     #[inline]
-    fn shared(&self) -> Option<&Shared> {
-        if self.len <= FEW {
-            return None;
-        }
-        // SAFETY: they are more than few.
-        Some(unsafe { &self.held.shared })
+    fn shared(&self) -> Option<&Held> {
+        (self.len > FEW).then_some(&self.held)
     }
 
     #[inline]
     pub(crate) fn try_into_mut(self) -> Result<BytesMut, Bytes> {
         let bytes = match self.shared() {
-            // SAFETY: they are few.
-            None => ByteList::Few(FewBytes::first(unsafe { self.held.few }, self.len)),
+            None => {
+                let words = [self.held.first.addr(), self.held.capacity].map(usize::to_ne_bytes);
+                let mut few = [0; FEW];
+                few.copy_from_slice(words.as_flattened());
+                ByteList::Few(FewBytes::first(few, self.len))
+            }
             // (where there is one, nobody can add another)
-            Some(shared) if shared.holders().load(Ordering::Acquire) != 1 => return Err(self),
+            // SAFETY: they are more than few.
+            Some(shared) if unsafe { shared.holders() }.load(Ordering::Acquire) != 1 => {
+                return Err(self);
+            }
             // SAFETY: this is the only holder, and it isn't dropped.
             Some(shared) => ByteList::Many(unsafe { shared.take_list(self.len) }),
         };
@@ -116,11 +114,13 @@ impl Bytes {
     }
 }
 
-impl Shared {
+impl Held {
+    // Of more than few bytes.
+    // SAFETY of a call: they are.
     #[inline]
-    fn holders(&self) -> &AtomicUsize {
+    unsafe fn holders(&self) -> &AtomicUsize {
         // SAFETY: it is there as long as a holder.
-        unsafe { self.holders.as_ref() }
+        unsafe { &*self.holders }
     }
 
     // Takes the list of so many bytes, and lets go of the number of holders.
@@ -128,10 +128,10 @@ impl Shared {
     #[inline]
     unsafe fn take_list(&self, len: usize) -> Vec<u8> {
         // SAFETY: these are the parts of a list that nobody has, and nobody makes it again, as is asked.
-        let mut list = unsafe { Vec::from_raw_parts(self.first.as_ptr(), len, self.capacity) };
+        let mut list = unsafe { Vec::from_raw_parts(self.first, len, self.capacity) };
         if place_behind(&mut list).is_none() {
             // SAFETY: there was no place for it either when it was made.
-            drop(unsafe { Box::from_raw(self.holders.as_ptr()) });
+            drop(unsafe { Box::from_raw(self.holders) });
         }
         list
     }
@@ -141,7 +141,8 @@ impl Clone for Bytes {
     #[inline]
     fn clone(&self) -> Bytes {
         if let Some(shared) = self.shared() {
-            let before = shared.holders().fetch_add(1, Ordering::Relaxed);
+            // SAFETY: they are more than few.
+            let before = unsafe { shared.holders() }.fetch_add(1, Ordering::Relaxed);
             // (as `Arc` has it: only a program that forgets clones can come so far)
             assert!(before < usize::MAX / 2, "too many holders");
         }
@@ -154,7 +155,8 @@ impl Drop for Bytes {
     fn drop(&mut self) {
         let Some(shared) = self.shared() else { return };
         // (where there is one, nobody can add another)
-        let holders = shared.holders();
+        // SAFETY: they are more than few.
+        let holders = unsafe { shared.holders() };
         if holders.load(Ordering::Acquire) == 1 || holders.fetch_sub(1, Ordering::AcqRel) == 1 {
             // SAFETY: this was the last holder.
             drop(unsafe { shared.take_list(self.len) });
@@ -192,7 +194,11 @@ impl Hash for Bytes {
 impl From<FewBytes> for Bytes {
     #[inline]
     fn from(bytes: FewBytes) -> Bytes {
-        Bytes { len: bytes.len(), held: Held { few: bytes.all() } }
+        let all = bytes.all();
+        let (first, second) = all.split_at(size_of::<usize>());
+        let word = |bytes: &[u8]| bytes.first_chunk().map_or(0, |word| usize::from_ne_bytes(*word));
+        let (first, capacity) = (ptr::without_provenance_mut(word(first)), word(second));
+        Bytes { len: bytes.len(), held: Held { first, capacity, holders: ptr::null_mut() } }
     }
 }
 
@@ -223,12 +229,10 @@ impl From<Vec<u8>> for Bytes {
             None => NonNull::from(Box::leak(Box::new(one))),
         };
         let mut list = ManuallyDrop::new(list);
-        // SAFETY: no list lies at null. (A pointer to the slice would be one to no room behind it.)
-        let first = unsafe { NonNull::new_unchecked(list.as_mut_ptr()) };
-        Bytes {
-            len: list.len(),
-            held: Held { shared: Shared { first, capacity: list.capacity(), holders } },
-        }
+        // (a pointer to the slice would be one to no room behind it)
+        let (first, capacity) = (list.as_mut_ptr(), list.capacity());
+        let held = Held { first, capacity, holders: holders.as_ptr() };
+        Bytes { len: list.len(), held }
     }
 }
 
