@@ -5,11 +5,12 @@ use core::ops::{Deref, DerefMut};
 /// So many are few: two words, 128 values.
 pub(crate) const FEW: usize = 16;
 
-/// Few bytes.
+/// Few bytes. (They are words, as the parts of a list are, so that what has either of them is moved word by word.)
 #[derive(Clone, Copy)]
+#[repr(C, align(8))]
 pub struct FewBytes {
     bytes: [u8; FEW],
-    count: u8,
+    count: usize,
 }
 
 impl FewBytes {
@@ -21,9 +22,8 @@ impl FewBytes {
 
     /// The first ones of these, so many as are asked for.
     #[inline]
-    #[allow(clippy::cast_possible_truncation, reason = "few are fewer than 256")]
     pub(crate) fn first(bytes: [u8; FEW], count: usize) -> FewBytes {
-        FewBytes { bytes, count: count.min(FEW) as u8 }
+        FewBytes { bytes, count: count.min(FEW) }
     }
 
     /// A copy of bytes, if they are few.
@@ -50,7 +50,7 @@ impl FewBytes {
     // (never more than there are, which the compiler sees by this)
     #[inline]
     fn count(&self) -> usize {
-        usize::from(self.count).min(FEW)
+        self.count.min(FEW)
     }
 }
 
