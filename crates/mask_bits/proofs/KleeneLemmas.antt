@@ -1,12 +1,16 @@
 -- The words that the loop over two lists with nulls reads and writes.
-use Rattle.mask_bits.proofs.Common.{◌≡◌, ℕ, zero, suc, ◌+◌, ◌*◌, ◌-◌, ◌<◌, ◌≤◌, ◌⊎◌, ◌^◌, Bool, true, false, ◌&&◌, ◌||◌, List, [], ◌∷◌, length, get_or, map, Option, None, Some, refl, sym, ap, ◌∙◌, inl, inr, cases_lt, arith, ◌/◌, ◌%◌, drop, bitmap, Packed, values, bit_and, bit_or, bit_not, w64, ext_get_or, and_of, or_of, not_of, backing_bit, word_bits, window, get_or-map}
-use Rattle.mask_bits.specs.Kleene.{always_valid, is_false, placed, value_at, AreWordsOf, AreOfTable}
+use Rattle.mask_bits.proofs.Common.{Bor, ap₂, option_map, subst, take, ◌++◌, ◌≡◌, ℕ, zero, suc, ◌+◌, ◌*◌, ◌-◌, ◌<◌, ◌≤◌, ◌⊎◌, ◌^◌, Bool, true, false, ◌&&◌, ◌||◌, List, [], ◌∷◌, length, get_or, map, Option, None, Some, refl, sym, ap, ◌∙◌, inl, inr, cases_lt, arith, ◌/◌, ◌%◌, drop, bitmap, Packed, values, bit_and, bit_or, bit_not, w64, ext_get_or, and_of, or_of, not_of, backing_bit, word_bits, window, get_or-map}
+use Rattle.std.proofs.lemmas.List.{map-append}
+use Rattle.mask_bits.specs.Kleene.{always_valid, is_false, nullable_bitmap, nullable_window, placed, value_at, values_of, word_values, AreWordsOf, AreOfTable}
+use Rattle.mask_bits.specs.declared.kleene.NullableBitmap.{NullableBitmap}
+use Rattle.mask_bits.specs.declared.kleene.NullableBits.{NullableBits}
 use Rattle.mask_bits.specs.Nullable.{and_kleene, or_kleene, is_true, nullable, nullable_value, combined_nullable, is_true_of, is_valid_of}
 use Rattle.mask_bits.proofs.BufferLemmas.{length-values, get_or-values, values_from_bits, values_from_front}
 use Rattle.mask_bits.proofs.CombineLemmas.{word_bits-combined, backing_bit-drop}
 use Rattle.mask_bits.proofs.Lists.BooleanLemmas.{length-not_of}
 use Rattle.mask_bits.proofs.Lists.NullableLemmas.{by_values_2, map_combined}
-use Rattle.mask_bits.proofs.Lists.Words.FrontLemmas.{length-window, get_or-window}
+use Rattle.mask_bits.proofs.Lists.Words.BackingBitLemmas.{bitmap-append, length-bitmap}
+use Rattle.mask_bits.proofs.Lists.Words.FrontLemmas.{length-window, get_or-window, window-take}
 use Rattle.mask_bits.proofs.Lists.Words.ShiftLemmas.{get_or-word_bits_and, get_or-word_bits_or, get_or-word_bits_not}
 use Rattle.mask_bits.proofs.Lists.Words.WordLemmas.{length-word_bits}
 
@@ -127,25 +131,33 @@ length-table h table (x ∷ a) [] len = absurd (omega arith)
 length-table h table (x ∷ a) (y ∷ b) len = grind (arith, length-table h table a b)
 
 -- value i of lists that are lent
-placed_value : (f : Bool → Bool → Option Bool) (a v : List ℕ) (p q len i : ℕ) → i < len → get_or (placed f (bitmap a p len) (bitmap v q len)) i None ≡ value_at f a p v q i
-placed_value f a v p q len i h = grind (arith, get_or-placed f (bitmap a p len) (bitmap v q len) i, length-values, get_or-values)
+placed_value : (f : Bool → Bool → Option Bool) (a : NullableBits) (len i : ℕ) → i < len → get_or (values_of f a len) i None ≡ value_at f a i
+placed_value f a len i h = grind (arith, get_or-placed f (bitmap a.values.bytes.now a.values.low len) (bitmap a.validity.bytes.now a.validity.low len) i, length-values, get_or-values)
 
 -- value j of a word that was read
-placed_bit : (f : Bool → Bool → Option Bool) (a v : List ℕ) (p q i j : ℕ) → j < 64 → get_or (placed f (window a (p + 64 * i)) (window v (q + 64 * i))) j None ≡ value_at f a p v q (64 * i + j)
-placed_bit f a v p q i j h = grind (arith, get_or-placed f (window a (p + 64 * i)) (window v (q + 64 * i)) j, length-window, get_or-window)
+placed_bit : (f : Bool → Bool → Option Bool) (a : NullableBits) (i j : ℕ) → j < 64 → get_or (word_values f a i) j None ≡ value_at f a (64 * i + j)
+placed_bit f a i j h = grind (arith, get_or-placed f (window a.values.bytes.now (a.values.low + 64 * i)) (window a.validity.bytes.now (a.validity.low + 64 * i)) j, length-window, get_or-window)
+
+length-word_values : (f : Bool → Bool → Option Bool) (a : NullableBits) (i : ℕ) → length (word_values f a i) ≡ 64
+length-word_values f a i =
+    length-placed f (window a.values.bytes.now (a.values.low + 64 * i)) (window a.validity.bytes.now (a.validity.low + 64 * i)) (length-window a.values.bytes.now (a.values.low + 64 * i) ∙ sym (length-window a.validity.bytes.now (a.validity.low + 64 * i)))
+    ∙ length-window a.values.bytes.now (a.values.low + 64 * i)
+
+length-values_of : (f : Bool → Bool → Option Bool) (a : NullableBits) (n : ℕ) → length (values_of f a n) ≡ n
+length-values_of f a n =
+    let long : (bytes : List ℕ) (p : ℕ) → length (bitmap bytes p n) ≡ n = λ bytes p. length-values (record { bytes = bytes; offset = p; len = n }) in
+    length-placed f (bitmap a.values.bytes.now a.values.low n) (bitmap a.validity.bytes.now a.validity.low n) (long a.values.bytes.now a.values.low ∙ sym (long a.validity.bytes.now a.validity.low)) ∙ long a.values.bytes.now a.values.low
 
 -- one more word
-pub AreOfTable-step : (h : Option Bool → Bool) (table : Option Bool → Option Bool → Option Bool) (f g : Bool → Bool → Option Bool) (a v b w out new : List ℕ) (p q r s i : ℕ) (m : List Bool)
-    → AreOfTable h table (value_at f a p v q) (value_at g b r w s) out (64 * i)
-    → m ≡ map h (combined_nullable table (placed f (window a (p + 64 * i)) (window v (q + 64 * i))) (placed g (window b (r + 64 * i)) (window w (s + 64 * i))))
+pub AreOfTable-step : (h : Option Bool → Bool) (table : Option Bool → Option Bool → Option Bool) (f g : Bool → Bool → Option Bool) (a b : NullableBits) (out new : List ℕ) (i : ℕ) (m : List Bool)
+    → AreOfTable h table (value_at f a) (value_at g b) out (64 * i)
+    → m ≡ map h (combined_nullable table (word_values f a i) (word_values g b i))
     → window new (64 * i) ≡ m
     → ((k : ℕ) → ((k < 64 * i) ⊎ (64 * i + 64 ≤ k)) → backing_bit new k ≡ backing_bit out k)
-    → AreOfTable h table (value_at f a p v q) (value_at g b r w s) new (64 * (i + 1))
-AreOfTable-step h table f g a v b w out new p q r s i m before is wrote others = λ k below.
-    let x : List (Option Bool) = placed f (window a (p + 64 * i)) (window v (q + 64 * i)) in
-    let y : List (Option Bool) = placed g (window b (r + 64 * i)) (window w (s + 64 * i)) in
-    let long : (f : Bool → Bool → Option Bool) (a v : List ℕ) (p q : ℕ) → length (placed f (window a p) (window v q)) ≡ 64
-    = λ f a v p q. length-placed f (window a p) (window v q) (length-window a p ∙ sym (length-window v q)) ∙ length-window a p in
+    → AreOfTable h table (value_at f a) (value_at g b) new (64 * (i + 1))
+AreOfTable-step h table f g a b out new i m before is wrote others = λ k below.
+    let x : List (Option Bool) = word_values f a i in
+    let y : List (Option Bool) = word_values g b i in
     elim (cases_lt k (64 * i)) [
       | inl under ↦ others k (inl under) ∙ before k under
       | inr over ↦
@@ -154,27 +166,24 @@ AreOfTable-step h table f g a v b w out new p q r s i m before is wrote others =
           let at : 64 * i + j ≡ k = omega arith in
           let bit : backing_bit new k ≡ get_or m j false = ap (backing_bit new) (sym at) ∙ sym (get_or-window new (64 * i) j false few) ∙ ap (λ (xs : List Bool). get_or xs j false) wrote in
           let of : get_or m j false ≡ h (table (get_or x j None) (get_or y j None))
-          = ap (λ (xs : List Bool). get_or xs j false) is ∙ get_or-table h table x y j (omega (arith, long f a v (p + 64 * i) (q + 64 * i))) (long f a v (p + 64 * i) (q + 64 * i) ∙ sym (long g b w (r + 64 * i) (s + 64 * i))) in
-          bit ∙ of ∙ grind (arith, placed_bit f a v p q i j few, placed_bit g b w r s i j few, at)
+          = ap (λ (xs : List Bool). get_or xs j false) is ∙ get_or-table h table x y j (omega (arith, length-word_values f a i)) (length-word_values f a i ∙ sym (length-word_values g b i)) in
+          bit ∙ of ∙ grind (arith, placed_bit f a i j few, placed_bit g b i j few, at)
     ]
 
 -- ---- lists
 
 -- bits that the table gives are the list that it gives
-pub table-list : (h : Option Bool → Bool) (table : Option Bool → Option Bool → Option Bool) (f g : Bool → Bool → Option Bool) (a v b w out : List ℕ) (p q r s n len : ℕ)
-    → AreOfTable h table (value_at f a p v q) (value_at g b r w s) out n → len ≤ n
-    → bitmap out 0 len ≡ map h (combined_nullable table (placed f (bitmap a p len) (bitmap v q len)) (placed g (bitmap b r len) (bitmap w s len)))
-table-list h table f g a v b w out p q r s n len are enough =
-    let long : (bytes : List ℕ) (p : ℕ) → length (bitmap bytes p len) ≡ len = λ bytes p. length-values (record { bytes = bytes; offset = p; len = len }) in
-    let x : List (Option Bool) = placed f (bitmap a p len) (bitmap v q len) in
-    let y : List (Option Bool) = placed g (bitmap b r len) (bitmap w s len) in
-    let long_x : length x ≡ len = length-placed f (bitmap a p len) (bitmap v q len) (long a p ∙ sym (long v q)) ∙ long a p in
-    let long_y : length y ≡ len = length-placed g (bitmap b r len) (bitmap w s len) (long b r ∙ sym (long w s)) ∙ long b r in
-    let long_xy : length (map h (combined_nullable table x y)) ≡ len = length-table h table x y (long_x ∙ sym long_y) ∙ long_x in
-    let one : (f : Bool → Bool → Option Bool) (a v : List ℕ) (p q i : ℕ) → i < len → get_or (placed f (bitmap a p len) (bitmap v q len)) i None ≡ value_at f a p v q i
-    = λ f a v p q i h. placed_value f a v p q len i h in
+pub table-list : (h : Option Bool → Bool) (table : Option Bool → Option Bool → Option Bool) (f g : Bool → Bool → Option Bool) (a b : NullableBits) (out : List ℕ) (n len : ℕ)
+    → AreOfTable h table (value_at f a) (value_at g b) out n → len ≤ n
+    → bitmap out 0 len ≡ map h (combined_nullable table (values_of f a len) (values_of g b len))
+table-list h table f g a b out n len are enough =
+    let x : List (Option Bool) = values_of f a len in
+    let y : List (Option Bool) = values_of g b len in
+    let long_x : length x ≡ len = length-values_of f a len in
+    let same : length x ≡ length y = long_x ∙ sym (length-values_of g b len) in
+    let long_xy : length (map h (combined_nullable table x y)) ≡ len = length-table h table x y same ∙ long_x in
     values_from_front out (map h (combined_nullable table x y)) len long_xy (λ i below.
-    are i (omega arith) ∙ grind (arith, one f a v p q i below, one g b w r s i below) ∙ sym (get_or-table h table x y i (omega (arith, long_x)) (long_x ∙ sym long_y)))
+    are i (omega arith) ∙ grind (arith, placed_value f a len i below, placed_value g b len i below) ∙ sym (get_or-table h table x y i (omega (arith, long_x)) same))
 
 -- bytes from that of the first bit on have the list
 pub bitmap-from_byte : (bytes part : List ℕ) (p low len : ℕ) → part ≡ drop (p / 8) bytes → low ≡ p % 8 → bitmap part low len ≡ bitmap bytes p len
@@ -189,5 +198,67 @@ placed-itself [] = refl
 placed-itself (x ∷ m) = ap (λ (xs : List (Option Bool)). Some x ∷ xs) (placed-itself m)
 
 pub ruleset table_lists = (bitmap-from_byte, placed-itself)
+
+-- ---- parts of lists
+
+nullable-append : (m n : List Bool) (v w : List Bool) → length m ≡ length v → nullable (m ++ n) (Some (v ++ w)) ≡ nullable m (Some v) ++ nullable n (Some w)
+nullable-append [] n [] w len = refl
+nullable-append [] n (y ∷ v) w len = absurd (omega arith)
+nullable-append (x ∷ m) n [] w len = absurd (omega arith)
+nullable-append (x ∷ m) n (y ∷ v) w len = ap (λ (xs : List (Option Bool)). nullable_value x y ∷ xs) (nullable-append m n v w (omega arith))
+
+-- the values behind some others
+parts-present : (values validity : List ℕ) (p q s n : ℕ)
+    → nullable (bitmap values p (s + n)) (Some (bitmap validity q (s + n))) ≡ nullable (bitmap values p s) (Some (bitmap validity q s)) ++ nullable (bitmap values (p + s) n) (Some (bitmap validity (q + s) n))
+parts-present values validity p q s n =
+    rw (bitmap-append values p s n, bitmap-append validity q s n) (nullable-append (bitmap values p s) (bitmap values (p + s) n) (bitmap validity q s) (bitmap validity (q + s) n) (length-bitmap values p s ∙ sym (length-bitmap validity q s)))
+
+parts-absent : (values : List ℕ) (p s n : ℕ) → nullable (bitmap values p (s + n)) None ≡ nullable (bitmap values p s) None ++ nullable (bitmap values (p + s) n) None
+parts-absent values p s n = rw (bitmap-append values p s n) (map-append Some (bitmap values p s) (bitmap values (p + s) n))
+
+pub parts-of-present : (a : NullableBitmap) (v : Bor (List ℕ) × ℕ) (s n : ℕ) → a.validity ≡ Some v
+    → nullable_bitmap a (s + n) ≡ nullable_bitmap a s ++ nullable (bitmap a.values.0.now (a.values.1 + s) n) (Some (bitmap v.0.now (v.1 + s) n))
+parts-of-present a v s n is = rw is (parts-present a.values.0.now v.0.now a.values.1 v.1 s n)
+
+pub parts-of-absent : (a : NullableBitmap) (s n : ℕ) → a.validity ≡ None
+    → nullable_bitmap a (s + n) ≡ nullable_bitmap a s ++ nullable (bitmap a.values.0.now (a.values.1 + s) n) None
+parts-of-absent a s n is = rw is (parts-absent a.values.0.now a.values.1 s n)
+
+-- a word without a validity
+pub word-absent : (a : NullableBitmap) (w t f : ℕ) → a.validity ≡ None → word_bits w ≡ window a.values.0.now a.values.1
+    → AreWordsOf (placed always_valid (word_bits w) (word_bits w)) t f → AreWordsOf (nullable_window a) t f
+word-absent a w t f none is words =
+    rw none (subst (λ (m : List (Option Bool)). AreWordsOf m t f) (placed-itself (word_bits w) ∙ ap (λ (m : List Bool). nullable m None) is) words)
+
+-- the first values of words are those of bits from there on
+take-nullable : (k : ℕ) (m v : List Bool) → take k (nullable m (Some v)) ≡ nullable (take k m) (Some (take k v))
+take-nullable zero m v = refl
+take-nullable (suc k) [] v = refl
+take-nullable (suc k) (x ∷ m) [] = refl
+take-nullable (suc k) (x ∷ m) (y ∷ v) = ap (λ (xs : List (Option Bool)). nullable_value x y ∷ xs) (take-nullable k m v)
+
+take-somes : (k : ℕ) (m : List Bool) → take k (nullable m None) ≡ nullable (take k m) None
+take-somes zero m = refl
+take-somes (suc k) [] = refl
+take-somes (suc k) (x ∷ m) = ap (λ (xs : List (Option Bool)). Some x ∷ xs) (take-somes k m)
+
+take-table : (h : Option Bool → Bool) (table : Option Bool → Option Bool → Option Bool) (k : ℕ) (a b : List (Option Bool)) → take k (map h (combined_nullable table a b)) ≡ map h (combined_nullable table (take k a) (take k b))
+take-table h table zero a b = refl
+take-table h table (suc k) [] b = refl
+take-table h table (suc k) (x ∷ a) [] = refl
+take-table h table (suc k) (x ∷ a) (y ∷ b) = ap (λ (xs : List Bool). h (table x y) ∷ xs) (take-table h table k a b)
+
+take-parts : (values : List ℕ) (p : ℕ) (validity : Option (Bor (List ℕ) × ℕ)) (k : ℕ) → k ≤ 64
+    → take k (nullable (window values p) (option_map (λ v. window v.0.now v.1) validity)) ≡ nullable (bitmap values p k) (option_map (λ v. bitmap v.0.now v.1 k) validity)
+take-parts values p None k few = take-somes k (window values p) ∙ ap (λ (x : List Bool). nullable x None) (window-take values p k few)
+take-parts values p (Some v) k few = take-nullable k (window values p) (window v.0.now v.1) ∙ ap₂ (λ (x y : List Bool). nullable x (Some y)) (window-take values p k few) (window-take v.0.now v.1 k few)
+
+take-window : (a : NullableBitmap) (k : ℕ) → k ≤ 64 → take k (nullable_window a) ≡ nullable_bitmap a k
+take-window a k few = take-parts a.values.0.now a.values.1 a.validity k few
+
+pub first-values : (h : Option Bool → Bool) (table : Option Bool → Option Bool → Option Bool) (a b : NullableBitmap) (k : ℕ) (m : List Bool) → k ≤ 64 → m ≡ map h (combined_nullable table (nullable_window a) (nullable_window b))
+    → take k m ≡ map h (combined_nullable table (nullable_bitmap a k) (nullable_bitmap b k))
+first-values h table a b k m few is =
+    ap (take k) is ∙ take-table h table k (nullable_window a) (nullable_window b) ∙ ap₂ (λ (x y : List (Option Bool)). map h (combined_nullable table x y)) (take-window a k few) (take-window b k few)
 
 pub ruleset nullable_words = (words-present, words-absent, words-and, words-or, words-valid)

@@ -1,11 +1,12 @@
 -- What the loop over the words of two lists with nulls reads, and what it has written, bit by bit.
-use Rattle.std.specs.Borrow.{Bor}
-use Rattle.std.specs.Option.{is_some}
-use Rattle.std.specs.Prelude.{ℕ, ◌+◌, ◌<◌, ◌≡◌, Bool, true, false, List, Option, None, Some, map, option_map, zip}
+use Rattle.std.specs.Option.{ForSome, is_some}
+use Rattle.std.specs.Prelude.{ℕ, ◌+◌, ◌*◌, ◌<◌, ◌≡◌, Bool, true, false, List, Option, None, Some, map, option_map, zip}
 use Rattle.mask_bits.specs.Bitmap.{bitmap}
 use Rattle.mask_bits.specs.Buffer.{IsWithinBytes, backing_bit}
 use Rattle.mask_bits.specs.Nullable.{is_true, nullable}
-use Rattle.mask_bits.specs.Words.{word_bits}
+use Rattle.mask_bits.specs.Words.{window, word_bits}
+use Rattle.mask_bits.specs.declared.kleene.NullableBitmap.{NullableBitmap}
+use Rattle.mask_bits.specs.declared.kleene.NullableBits.{NullableBits}
 
 -- a null isn't false
 abbrev pub is_false : Option Bool → Bool
@@ -26,9 +27,17 @@ pub record AreWordsOf (m : List (Option Bool)) (t f : ℕ) : Type 0 where
   pub trues : word_bits t ≡ map is_true m
   pub falses : word_bits f ≡ map is_false m
 
--- value k, of the bits from p on and of those of the validity from q on
-abbrev pub value_at : (Bool → Bool → Option Bool) → List ℕ → ℕ → List ℕ → ℕ → ℕ → Option Bool
-value_at place values p validity q k = place (backing_bit values (p + k)) (backing_bit validity (q + k))
+-- value k of the bits of values and of their validity
+abbrev pub value_at : (Bool → Bool → Option Bool) → NullableBits → ℕ → Option Bool
+value_at place a k = place (backing_bit a.values.bytes.now (a.values.low + k)) (backing_bit a.validity.bytes.now (a.validity.low + k))
+
+-- its first n values
+abbrev pub values_of : (Bool → Bool → Option Bool) → NullableBits → ℕ → List (Option Bool)
+values_of place a n = placed place (bitmap a.values.bytes.now a.values.low n) (bitmap a.validity.bytes.now a.validity.low n)
+
+-- its 64 values of word i
+abbrev pub word_values : (Bool → Bool → Option Bool) → NullableBits → ℕ → List (Option Bool)
+word_values place a i = placed place (window a.values.bytes.now (a.values.low + 64 * i)) (window a.validity.bytes.now (a.validity.low + 64 * i))
 
 -- the first n bits of `out` are h of what the table has for the two values
 abbrev pub AreOfTable : (Option Bool → Bool) → (Option Bool → Option Bool → Option Bool) → (ℕ → Option Bool) → (ℕ → Option Bool) → List ℕ → ℕ → Type 0
@@ -39,16 +48,27 @@ pub record IsOfTable (table : Option Bool → Option Bool → Option Bool) (a b 
   pub values : AreOfTable is_true table a b out n
   pub validity : AreOfTable is_some table a b out_validity n
 
--- the n bits of values and of their validity are within the bytes
-pub record AreWithinBytes (values : List ℕ) (p : ℕ) (validity : List ℕ) (q n : ℕ) : Type 0 where
-  pub values_within : IsWithinBytes values p n
-  pub validity_within : IsWithinBytes validity q n
+-- n bits of the values and of their validity are within the bytes, and both begin in their first byte
+pub record AreWithinBytes (a : NullableBits) (n : ℕ) : Type 0 where
+  pub values_within : IsWithinBytes a.values.bytes.now a.values.low n
+  pub validity_within : IsWithinBytes a.validity.bytes.now a.validity.low n
+  pub values_few : a.values.low < 8
+  pub validity_few : a.validity.low < 8
 
--- both lists begin in their first byte
-pub record BeginInFirstByte (p q : ℕ) : Type 0 where
-  pub values_few : p < 8
-  pub validity_few : q < 8
+-- n words of the values and of their validity can be read so
+pub record CanReadBoth (can_read : List ℕ → ℕ → ℕ → Type 0) (a : NullableBits) (n : ℕ) : Type 0 where
+  pub values : (i : ℕ) → i < n → can_read a.values.bytes.now a.values.low i
+  pub validity : (i : ℕ) → i < n → can_read a.validity.bytes.now a.validity.low i
 
--- n values of bytes and a position in them, with such a validity
-abbrev pub nullable_bitmap : (Bor (List ℕ) × ℕ) → Option (Bor (List ℕ) × ℕ) → ℕ → List (Option Bool)
-nullable_bitmap values validity n = nullable (bitmap values.0.now values.1 n) (option_map (λ v. bitmap v.0.now v.1 n) validity)
+-- n values of plain bytes, with such a validity
+abbrev pub nullable_bitmap : NullableBitmap → ℕ → List (Option Bool)
+nullable_bitmap a n = nullable (bitmap a.values.0.now a.values.1 n) (option_map (λ v. bitmap v.0.now v.1 n) a.validity)
+
+-- its 64 values from the first on, which past the bytes have no meaning
+abbrev pub nullable_window : NullableBitmap → List (Option Bool)
+nullable_window a = nullable (window a.values.0.now a.values.1) (option_map (λ v. window v.0.now v.1) a.validity)
+
+-- n bits of the values, and of the validity where there is one, are within their bytes
+pub record HasValues (a : NullableBitmap) (n : ℕ) : Type 0 where
+  pub values : IsWithinBytes a.values.0.now a.values.1 n
+  pub validity : ForSome a.validity (λ v. IsWithinBytes v.0.now v.1 n)

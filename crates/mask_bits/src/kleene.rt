@@ -1,15 +1,14 @@
 //! Kleene's tables of two lists with nulls, value by value, over plain bytes.
 
-ghost use Rattle.std.specs.Option.{ForSome};
-ghost use Rattle.std.specs.Prelude.{drop, ◌≡◌, ◌+◌, ◌-◌, ◌*◌, ◌/◌, ◌%◌, ◌<◌, ◌≤◌, ℕ, Bool, true, List, Option, min, length};
+ghost use Rattle.std.specs.Prelude.{drop, ◌≡◌, ◌+◌, ◌-◌, ◌*◌, ◌/◌, ◌%◌, ◌<◌, ◌≤◌, ◌++◌, ℕ, Bool, true, List, Option, min, length, take};
 ghost use Rattle.mask_bits.specs.Bitmap.{bitmap};
-ghost use Rattle.mask_bits.specs.Buffer.{IsWithinBytes};
-ghost use Rattle.mask_bits.specs.Kleene.{nullable_bitmap, always_valid, placed, value_at, AreWordsOf, AreWithinBytes, BeginInFirstByte, IsOfTable};
+ghost use Rattle.mask_bits.specs.Combine.{IsInTwoWords};
+ghost use Rattle.mask_bits.specs.Kleene.{nullable_bitmap, nullable_window, always_valid, placed, value_at, values_of, word_values, AreWordsOf, AreWithinBytes, CanReadBoth, HasValues, IsOfTable};
 ghost use Rattle.mask_bits.specs.Nullable.{and_kleene, or_kleene, combined_nullable, nullable_value, is_true_of, is_valid_of};
-ghost use Rattle.mask_bits.specs.Words.{word_bits, window, started_words};
+ghost use Rattle.mask_bits.specs.Words.{word_bits, started_words};
 
 use crate::read_word::{Anywhere, Bits, Neighbors, ReadWord, Unaligned, Whole};
-use crate::words::{set_word, started_words};
+use crate::words::{set_word, started_words, word_at};
 
 /// 64 values with nulls: where they are true, and where they are false.
 #[derive(Clone, Copy)]
@@ -169,11 +168,7 @@ impl<'a> NullableBits<'a> {
     fn word<R: ReadWord, V: Validity>(self, i: usize) -> NullableWord
         requires values { R.can_read self.values.bytes.now self.values.low i }
         requires validity { R.can_read self.validity.bytes.now self.validity.low i }
-        ensures { AreWordsOf
-            (placed V.place
-            (window self.entry.values.bytes.now (self.entry.values.low + 64 * i))
-            (window self.entry.validity.bytes.now (self.entry.validity.low + 64 * i)))
-            result.trues result.falses }
+        ensures { AreWordsOf (word_values V.place self.entry i) result.trues result.falses }
     {
         V::word(R::word(self.values, i), R::word(self.validity, i))
     }
@@ -187,19 +182,11 @@ fn extend_whole<C: KleeneOp, V: Validity, W: Validity>(
     values: &mut [u8],
     validity: &mut [u8],
 )
-    requires a_within { AreWithinBytes a.values.bytes.now a.values.low
-        a.validity.bytes.now a.validity.low (64 * words) }
-    requires b_within { AreWithinBytes b.values.bytes.now b.values.low
-        b.validity.bytes.now b.validity.low (64 * words) }
-    requires few_a { BeginInFirstByte a.values.low a.validity.low }
-    requires few_b { BeginInFirstByte b.values.low b.validity.low }
+    requires a_within { AreWithinBytes a (64 * words) }
+    requires b_within { AreWithinBytes b (64 * words) }
     requires room { 8 * words ≤ length values.old }
     requires validity_room { 8 * words ≤ length validity.old }
-    ensures { IsOfTable C.table
-        (value_at V.place a.entry.values.bytes.now a.entry.values.low
-        a.entry.validity.bytes.now a.entry.validity.low)
-        (value_at W.place b.entry.values.bytes.now b.entry.values.low
-        b.entry.validity.bytes.now b.entry.validity.low)
+    ensures { IsOfTable C.table (value_at V.place a.entry) (value_at W.place b.entry)
         values.new validity.new (64 * words) }
 {
     if a.begin_whole() && b.begin_whole() {
@@ -220,21 +207,11 @@ fn extend_inner<C: KleeneOp, V: Validity, W: Validity>(
     values: &mut [u8],
     validity: &mut [u8],
 )
-    requires a_goes_on { (i : ℕ) → i < words → 8 * i + 16 ≤ length a.values.bytes.now }
-    requires a_validity_goes_on { (i : ℕ) → i < words
-        → 8 * i + 16 ≤ length a.validity.bytes.now }
-    requires b_goes_on { (i : ℕ) → i < words → 8 * i + 16 ≤ length b.values.bytes.now }
-    requires b_validity_goes_on { (i : ℕ) → i < words
-        → 8 * i + 16 ≤ length b.validity.bytes.now }
-    requires few_a { BeginInFirstByte a.values.low a.validity.low }
-    requires few_b { BeginInFirstByte b.values.low b.validity.low }
+    requires reads_a { CanReadBoth IsInTwoWords a words }
+    requires reads_b { CanReadBoth IsInTwoWords b words }
     requires room { 8 * words ≤ length values.old }
     requires validity_room { 8 * words ≤ length validity.old }
-    ensures { IsOfTable C.table
-        (value_at V.place a.entry.values.bytes.now a.entry.values.low
-        a.entry.validity.bytes.now a.entry.validity.low)
-        (value_at W.place b.entry.values.bytes.now b.entry.values.low
-        b.entry.validity.bytes.now b.entry.validity.low)
+    ensures { IsOfTable C.table (value_at V.place a.entry) (value_at W.place b.entry)
         values.new validity.new (64 * words) }
 {
     extend::<C, Neighbors, V, W>(a, b, 0, words, values, validity);
@@ -249,26 +226,14 @@ fn extend<C: KleeneOp, R: ReadWord, V: Validity, W: Validity>(
     values: &mut [u8],
     validity: &mut [u8],
 )
-    requires reads_a { (i : ℕ) → i < to → R.can_read a.values.bytes.now a.values.low i }
-    requires reads_a_validity { (i : ℕ) → i < to
-        → R.can_read a.validity.bytes.now a.validity.low i }
-    requires reads_b { (i : ℕ) → i < to → R.can_read b.values.bytes.now b.values.low i }
-    requires reads_b_validity { (i : ℕ) → i < to
-        → R.can_read b.validity.bytes.now b.validity.low i }
+    requires reads_a { CanReadBoth R.can_read a to }
+    requires reads_b { CanReadBoth R.can_read b to }
     requires ordered { from ≤ to }
     requires room { 8 * to ≤ length values.old }
     requires validity_room { 8 * to ≤ length validity.old }
-    requires before { IsOfTable C.table
-        (value_at V.place a.values.bytes.now a.values.low
-        a.validity.bytes.now a.validity.low)
-        (value_at W.place b.values.bytes.now b.values.low
-        b.validity.bytes.now b.validity.low)
+    requires before { IsOfTable C.table (value_at V.place a) (value_at W.place b)
         values.old validity.old (64 * from) }
-    ensures { IsOfTable C.table
-        (value_at V.place a.entry.values.bytes.now a.entry.values.low
-        a.entry.validity.bytes.now a.entry.validity.low)
-        (value_at W.place b.entry.values.bytes.now b.entry.values.low
-        b.entry.validity.bytes.now b.entry.validity.low)
+    ensures { IsOfTable C.table (value_at V.place a.entry) (value_at W.place b.entry)
         values.new validity.new (64 * to) }
 {
     for i in from..to {
@@ -286,24 +251,14 @@ fn combine_bits<C: KleeneOp, V: Validity, W: Validity>(
     values: &mut [u8],
     validity: &mut [u8],
 )
-    requires a_within { AreWithinBytes a.values.bytes.now a.values.low
-        a.validity.bytes.now a.validity.low len }
-    requires b_within { AreWithinBytes b.values.bytes.now b.values.low
-        b.validity.bytes.now b.validity.low len }
-    requires few_a { BeginInFirstByte a.values.low a.validity.low }
-    requires few_b { BeginInFirstByte b.values.low b.validity.low }
+    requires a_within { AreWithinBytes a len }
+    requires b_within { AreWithinBytes b len }
     requires room { 8 * started_words len ≤ length values.old }
     requires validity_room { 8 * started_words len ≤ length validity.old }
     ensures values { bitmap values.new 0 len ≡ is_true_of (combined_nullable C.table
-        (placed V.place (bitmap a.entry.values.bytes.now a.entry.values.low len)
-        (bitmap a.entry.validity.bytes.now a.entry.validity.low len))
-        (placed W.place (bitmap b.entry.values.bytes.now b.entry.values.low len)
-        (bitmap b.entry.validity.bytes.now b.entry.validity.low len))) }
+        (values_of V.place a.entry len) (values_of W.place b.entry len)) }
     ensures validity { bitmap validity.new 0 len ≡ is_valid_of (combined_nullable C.table
-        (placed V.place (bitmap a.entry.values.bytes.now a.entry.values.low len)
-        (bitmap a.entry.validity.bytes.now a.entry.validity.low len))
-        (placed W.place (bitmap b.entry.values.bytes.now b.entry.values.low len)
-        (bitmap b.entry.validity.bytes.now b.entry.validity.low len))) }
+        (values_of V.place a.entry len) (values_of W.place b.entry len)) }
 {
     let (whole, words) = (len / 64, started_words(len));
     extend_whole::<C, V, W>(a, b, whole, values, validity);
@@ -318,6 +273,55 @@ pub struct NullableBitmap<'a> {
     pub validity: Option<(&'a [u8], usize)>,
 }
 
+impl<'a> NullableBitmap<'a> {
+    /// The values from the one at `start` on.
+    pub fn skip(self, start: usize) -> NullableBitmap<'a>
+        requires { HasValues self start }
+        ensures { (n : ℕ) → nullable_bitmap self.entry (start + n)
+            ≡ nullable_bitmap self.entry start ++ nullable_bitmap result n }
+    {
+        let values = (self.values.0, self.values.1 + start);
+        match self.validity {
+            Some(validity) => NullableBitmap {
+                values,
+                validity: Some((validity.0, validity.1 + start)),
+            },
+            None => NullableBitmap {
+                values,
+                validity: None,
+            },
+        }
+    }
+
+    // The 64 values from the first on. Past the bytes they have no meaning.
+    fn word(self) -> NullableWord
+        ensures { AreWordsOf (nullable_window self.entry) result.trues result.falses }
+    {
+        let values = word_at(self.values.0, self.values.1);
+        match self.validity {
+            Some(validity) => Present::word(values, word_at(validity.0, validity.1)),
+            None => Absent::word(values, values),
+        }
+    }
+}
+
+/// What the table of `C` has for the first `count` values of `a` and of `b`, in the lowest bits of a word:
+/// where it is true, and where it is valid. The bits above have no meaning.
+pub fn combine_kleene_word<C: KleeneOp>(
+    a: NullableBitmap<'_>,
+    b: NullableBitmap<'_>,
+    count: usize,
+) -> (u64, u64)
+    requires { count ≤ 64 }
+    ensures values { take count (word_bits result.0) ≡ is_true_of (combined_nullable C.table
+        (nullable_bitmap a.entry count) (nullable_bitmap b.entry count)) }
+    ensures validity { take count (word_bits result.1) ≡ is_valid_of (combined_nullable C.table
+        (nullable_bitmap a.entry count) (nullable_bitmap b.entry count)) }
+{
+    let word = C::of(a.word(), b.word());
+    (word.trues, word.valid())
+}
+
 /// Writes what the table of `C` has for each of the `len` values of `a` and of `b` to the front of
 /// `values` and `validity`, which are room of whole words: eight bytes for each started 64 values. Where
 /// the table has a null, the value is false. The bits past the list have no meaning.
@@ -330,18 +334,14 @@ pub fn combine_kleene<C: KleeneOp>(
     values: &mut [u8],
     validity: &mut [u8],
 )
-    requires a_within { IsWithinBytes a.values.0.now a.values.1 len }
-    requires b_within { IsWithinBytes b.values.0.now b.values.1 len }
-    requires a_validity_within { ForSome a.validity (λ v. IsWithinBytes v.0.now v.1 len) }
-    requires b_validity_within { ForSome b.validity (λ v. IsWithinBytes v.0.now v.1 len) }
+    requires a_within { HasValues a len }
+    requires b_within { HasValues b len }
     requires room { 8 * started_words len ≤ length values.old }
     requires validity_room { 8 * started_words len ≤ length validity.old }
     ensures values { bitmap values.new 0 len ≡ is_true_of (combined_nullable C.table
-        (nullable_bitmap a.entry.values a.entry.validity len)
-        (nullable_bitmap b.entry.values b.entry.validity len)) }
+        (nullable_bitmap a.entry len) (nullable_bitmap b.entry len)) }
     ensures validity { bitmap validity.new 0 len ≡ is_valid_of (combined_nullable C.table
-        (nullable_bitmap a.entry.values a.entry.validity len)
-        (nullable_bitmap b.entry.values b.entry.validity len)) }
+        (nullable_bitmap a.entry len) (nullable_bitmap b.entry len)) }
 {
     match (a.validity, b.validity) {
         (Some(v), Some(w)) => combine_bits::<C, Present, Present>(

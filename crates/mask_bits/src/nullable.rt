@@ -2,13 +2,13 @@
 
 ghost use Rattle.std.specs.Prelude.{◌≡◌, ◌*◌, ◌≤◌, None, Some, length, vec_len, IfOk};
 ghost use Rattle.mask_bits.specs.Bitmap.{bitmap};
-ghost use Rattle.mask_bits.specs.Buffer.{values, IsWithinBytes};
-ghost use Rattle.mask_bits.specs.Kleene.{nullable_bitmap};
+ghost use Rattle.mask_bits.specs.Buffer.{values};
+ghost use Rattle.mask_bits.specs.Kleene.{nullable_bitmap, HasValues};
 ghost use Rattle.mask_bits.specs.Nullable.{and_kleene_of, or_kleene_of, not_kleene_of, combined_nullable, is_true_of, is_not_false_of, is_null_of, is_valid_of};
 ghost use Rattle.mask_bits.specs.NullableBuffer.{AreInStep, nullable_values};
 ghost use Rattle.mask_bits.specs.Positions.{count};
 ghost use Rattle.mask_bits.specs.Words.{started_words};
-ghost use Rattle.std.specs.Option.{ForSome, option_map};
+ghost use Rattle.std.specs.Option.{option_map};
 
 use crate::bitops::combined_buffer;
 use crate::buffer::BitBuffer;
@@ -194,12 +194,8 @@ impl NullableBitBuffer {
 
     // the bytes of the values and of the validity, for readers of plain bytes
     fn bitmap(&self) -> NullableBitmap<'_>
-        ensures list { nullable_bitmap result.values result.validity (length (nullable_values self.now))
-            ≡ nullable_values self.now }
-        ensures within { IsWithinBytes result.values.0.now result.values.1
-            (length (nullable_values self.now)) }
-        ensures validity_within { ForSome result.validity
-            (λ v. IsWithinBytes v.0.now v.1 (length (nullable_values self.now))) }
+        ensures list { nullable_bitmap result (length (nullable_values self.now)) ≡ nullable_values self.now }
+        ensures within { HasValues result (length (nullable_values self.now)) }
     {
         let values = (self.values.bits(), self.values.offset());
         match &self.validity {

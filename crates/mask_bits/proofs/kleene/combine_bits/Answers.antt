@@ -6,14 +6,10 @@ use Rattle.mask_bits.proofs.kleene.combine_bits.Goals as goal
 
 pub returns-clause-values : goal.returns-clause-values
 returns-clause-values g c =
-    table-list is_true g.C.KleeneOp.table g.V.Validity.place g.W.Validity.place
-    c.args.a.values.bytes.now c.args.a.validity.bytes.now c.args.b.values.bytes.now c.args.b.validity.bytes.now c.extend.new.values
-    c.args.a.values.low c.args.a.validity.low c.args.b.values.low c.args.b.validity.low (64 * c.started_words-words.result) c.args.len
+    table-list is_true g.C.KleeneOp.table g.V.Validity.place g.W.Validity.place c.args.a c.args.b c.extend.new.values (64 * c.started_words-words.result) c.args.len
     c.extend.ensures.values (omega (arith, c.started_words-words.ensures))
 
 pub returns-clause-validity : goal.returns-clause-validity
 returns-clause-validity g c =
-    table-list is_some g.C.KleeneOp.table g.V.Validity.place g.W.Validity.place
-    c.args.a.values.bytes.now c.args.a.validity.bytes.now c.args.b.values.bytes.now c.args.b.validity.bytes.now c.extend.new.validity
-    c.args.a.values.low c.args.a.validity.low c.args.b.values.low c.args.b.validity.low (64 * c.started_words-words.result) c.args.len
+    table-list is_some g.C.KleeneOp.table g.V.Validity.place g.W.Validity.place c.args.a c.args.b c.extend.new.validity (64 * c.started_words-words.result) c.args.len
     c.extend.ensures.validity (omega (arith, c.started_words-words.ensures))

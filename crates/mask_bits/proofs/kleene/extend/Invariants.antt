@@ -5,7 +5,5 @@ use Rattle.mask_bits.proofs.kleene.extend.Given as goal
 -- the words before are written
 abbrev pub invariant-loop-i : goal.invariant-loop-i
 invariant-loop-i g l =
-    IsOfTable g.C.KleeneOp.table
-    (value_at g.V.Validity.place l.a.values.bytes.now l.a.values.low l.a.validity.bytes.now l.a.validity.low)
-    (value_at g.W.Validity.place l.b.values.bytes.now l.b.values.low l.b.validity.bytes.now l.b.validity.low)
+    IsOfTable g.C.KleeneOp.table (value_at g.V.Validity.place l.a) (value_at g.W.Validity.place l.b)
     l.values l.validity (64 * l.i)

@@ -1,4 +1,5 @@
 use Rattle.mask_bits.proofs.Common.{refl}
+use Rattle.std.proofs.lemmas.Option.{none-some}
 use Rattle.mask_bits.proofs.CombineLemmas.{within-parts}
 use Rattle.mask_bits.proofs.Lists.NullableLemmas.{length-both, length-somes}
 use Rattle.mask_bits.proofs.NullableBufferLemmas.{bitmap-both, bitmap-alone, length-nullable_values, within-lent}
@@ -10,11 +11,10 @@ returns-in-Some-clause-list c =
 
 pub returns-in-Some-clause-within : goal.returns-in-Some-clause-within
 returns-in-Some-clause-within c =
-    rw (← c.self.view_is, length-nullable_values _ _ c.self.invariant) (within-parts c.self.inside.values _ _ _ c.bits.ensures.within c.offset.ensures refl)
-
-pub returns-in-Some-clause-validity_within : goal.returns-in-Some-clause-validity_within
-returns-in-Some-clause-validity_within c =
-    rw (← c.self.view_is, length-nullable_values _ _ c.self.invariant, ← c.self.invariant _ c.in-Some.is) (within-lent c.in-Some.validity _ _ c.bits-in-Some.ensures.within c.offset-in-Some.ensures)
+    rw (← c.self.view_is, length-nullable_values _ _ c.self.invariant) (record {
+      values = within-parts c.self.inside.values _ _ _ c.bits.ensures.within c.offset.ensures refl;
+      validity = rw (← c.self.invariant _ c.in-Some.is) (within-lent c.in-Some.validity _ _ c.bits-in-Some.ensures.within c.offset-in-Some.ensures);
+    })
 
 pub returns-in-None-clause-list : goal.returns-in-None-clause-list
 returns-in-None-clause-list c =
@@ -22,4 +22,7 @@ returns-in-None-clause-list c =
 
 pub returns-in-None-clause-within : goal.returns-in-None-clause-within
 returns-in-None-clause-within c =
-    rw (← c.self.view_is, length-nullable_values _ _ c.self.invariant) (within-parts c.self.inside.values _ _ _ c.bits.ensures.within c.offset.ensures refl)
+    rw (← c.self.view_is, length-nullable_values _ _ c.self.invariant) (record {
+      values = within-parts c.self.inside.values _ _ _ c.bits.ensures.within c.offset.ensures refl;
+      validity = λ v is. absurd (none-some _ is);
+    })
