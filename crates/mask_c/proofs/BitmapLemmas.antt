@@ -1,5 +1,6 @@
 -- Lists of bitmaps: their values and parts, and the words that show them.
-use Rattle.mask_c.proofs.Common.{◌≡◌, ◌↔◌, ℕ, ◌+◌, ◌-◌, ◌<◌, ◌≤◌, ◌&&◌, not, Bool, true, false, List, [], ◌∷◌, length, get_or, slice_range, slice_get, Some, refl, sym, ap, ◌∙◌, add_assoc, inl, inr, arith, IsTrue, cases_lt, false≢true, ext_get_or, length-between, get_or-between, slice_get-get_or, bitmap, backing_bit, and_not_of, combined, count, count_below, repeated, IsSubset, length-bitmap, get_or-bitmap, get_or-combined, length-combined, all_false_from_count, count-repeated_false, get_or-repeated, length-repeated, count-part_further}
+use Rattle.mask_bits.specs.Lists.{not_of, or_of}
+use Rattle.mask_c.proofs.Common.{◌≡◌, ◌↔◌, ℕ, ◌+◌, ◌-◌, ◌<◌, ◌≤◌, ◌&&◌, ◌||◌, not, Bool, true, false, List, [], ◌∷◌, length, get_or, slice_range, slice_get, Some, refl, sym, ap, ◌∙◌, add_assoc, inl, inr, arith, IsTrue, cases_lt, false≢true, ext_get_or, length-between, get_or-between, slice_get-get_or, bitmap, backing_bit, and_not_of, combined, count, count_below, repeated, IsSubset, length-bitmap, get_or-bitmap, get_or-combined, length-combined, all_false_from_count, count-repeated_false, get_or-repeated, length-repeated, count-part_further}
 
 -- value i is the backing bit at offset + i
 pub slice_get-bitmap : (bytes : List ℕ) (offset len i : ℕ) → i < len → slice_get (bitmap bytes offset len) i ≡ Some (backing_bit bytes (offset + i))
@@ -26,6 +27,12 @@ first_of (v ∷ a) (w ∷ b) len = ap (λ (xs : List Bool). v ∷ xs) (first_of 
 -- the first of a list and itself is that list
 pub first_of_itself : (a : List Bool) → combined (λ x y. x) a a ≡ a
 first_of_itself a = sym (first_of a a refl)
+
+-- true in the first or false in the second
+pub or_of_not : (a b : List Bool) → combined (λ x y. x || not y) a b ≡ or_of a (not_of b)
+or_of_not [] b = refl
+or_of_not (v ∷ a) [] = refl
+or_of_not (v ∷ a) (w ∷ b) = ap (λ (xs : List Bool). (v || not w) ∷ xs) (or_of_not a b)
 
 -- ---- two lists
 

@@ -9,6 +9,7 @@ mod FromIndicesLemmas
 mod IndexLemmas
 mod LastLemmas
 mod LastRankLemmas
+mod NullableLemmas
 mod RunLemmas
 mod ShortStringLemmas
 mod StringLemmas

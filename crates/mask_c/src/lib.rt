@@ -15,6 +15,7 @@ mod in_place;
 mod indices;
 mod intersect;
 mod last;
+mod nullable;
 mod offsets;
 mod pointwise;
 mod rank_words;

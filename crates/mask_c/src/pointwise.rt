@@ -9,7 +9,7 @@ ghost use Rattle.mask_bits.specs.Words.{word_bits};
 ghost use Rattle.mask_c.specs.Bitmap.{AreClearBehind};
 
 use crate::last::put_remainder;
-use mask_bits::combine::{And, AndNot, BitOp, Not, Or, Xor, combine};
+use mask_bits::combine::{And, AndNot, BitOp, Not, Or, OrNot, Xor, combine};
 use mask_bits::words::word_at;
 
 // The first, whatever the second is.
@@ -92,6 +92,30 @@ pub extern "C" fn row_mask_and_not(
     ensures behind { drop (div_ceil len 8) out.new ≡ drop (div_ceil len 8) out.old }
 {
     write::<AndNot>(a, a_offset, b, b_offset, len, out);
+}
+
+/// Writes the values that are true in `a` or false in `b`: of values and their validity those that are true or null.
+///
+/// Asks that `out_size >= row_mask_room(len)`.
+#[unsafe(no_mangle)]
+#[tactic(auto, using(crate::proofs::BitmapLemmas::or_of_not))]
+pub extern "C" fn row_mask_or_not(
+    a: &[u8],
+    a_offset: usize,
+    b: &[u8],
+    b_offset: usize,
+    len: usize,
+    out: &mut [u8],
+)
+    requires a { IsWithinBytes a.now a_offset len }
+    requires b { IsWithinBytes b.now b_offset len }
+    requires room { div_ceil len 8 ≤ length out.old }
+    ensures values { bitmap out.new 0 len
+        ≡ or_of (bitmap a.now a_offset len) (not_of (bitmap b.now b_offset len)) }
+    ensures clear { AreClearBehind out.new len }
+    ensures behind { drop (div_ceil len 8) out.new ≡ drop (div_ceil len 8) out.old }
+{
+    write::<OrNot>(a, a_offset, b, b_offset, len, out);
 }
 
 /// Writes the values that are true in one and not in the other.
