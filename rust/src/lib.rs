@@ -18,6 +18,7 @@ pub mod kit;
 mod mask;
 mod memory;
 mod native;
+mod nullable;
 mod proved;
 mod row;
 mod selection;
@@ -30,6 +31,7 @@ pub use bitmap::{Bitmap, room::Room};
 pub use buf::BitmapBuf;
 pub use error::Error;
 pub use kit::{AllocError, Bytes};
+pub use nullable::{NullableBitmap, NullableBitmapBuf};
 #[doc(hidden)]
 pub use proved::mask_bits::BitBufferMut;
 pub use proved::mask_bits::{

@@ -28,7 +28,9 @@ use std::marker::Model;
 /// is as long as its operands, and the call is refused only where memory is missing (`AllocError`).
 #[derive(Drop)]
 pub struct NullableBitBuffer {
+    // rust: visible
     values: BitBuffer,
+    // rust: visible
     validity: Option<BitBuffer>,
 }
 

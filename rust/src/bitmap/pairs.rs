@@ -114,6 +114,41 @@ impl Bitmap<'_> {
         }
     }
 
+    /// The values that are true here or false in `other`.
+    ///
+    /// # Errors
+    /// [`Error::LengthsDiffer`], and [`Error::OutOfMemory`].
+    pub fn or_not<'b>(self, other: impl Into<Bitmap<'b>>) -> Result<BitmapBuf, Error> {
+        let other = other.into();
+        made(|out| self.or_not_into(other, out))
+    }
+
+    /// As [`or_not`](Self::or_not), written into `out`.
+    ///
+    /// # Errors
+    /// [`Error::LengthsDiffer`], and the refusals of [`Room`].
+    pub fn or_not_into<'b>(
+        self,
+        other: impl Into<Bitmap<'b>>,
+        out: &mut (impl Room + ?Sized),
+    ) -> Result<(), Error> {
+        let other = other.into();
+        self.of_length_of(other)?;
+        // SAFETY: the loop writes each byte, and reads none before.
+        unsafe {
+            out.write(self.len, |out| {
+                mask_c::row_mask_or_not(
+                    self.bytes(),
+                    self.offset(),
+                    other.bytes(),
+                    other.offset(),
+                    self.len(),
+                    out,
+                );
+            })
+        }
+    }
+
     /// The values that are true in one and not in the other.
     ///
     /// # Errors
@@ -350,7 +385,7 @@ impl Bitmap<'_> {
     }
 
     // Tests that another bitmap has as many values.
-    fn of_length_of(self, other: Bitmap<'_>) -> Result<(), Error> {
+    pub(crate) fn of_length_of(self, other: Bitmap<'_>) -> Result<(), Error> {
         Error::LengthsDiffer { left: self.len, right: other.len }.unless(self.len == other.len)
     }
 }

@@ -41,6 +41,9 @@ pub(crate) mod sealed {
     use crate::Error;
 
     pub trait Room {
+        /// Has room for `len` values, or is refused. The values stay as they are.
+        fn make_room(&mut self, len: usize) -> Result<(), Error>;
+
         /// Writes `len` values by what gets the bytes that they take.
         ///
         /// # Safety
@@ -53,8 +56,12 @@ pub(crate) mod sealed {
 }
 
 impl sealed::Room for BitmapBuf {
+    fn make_room(&mut self, len: usize) -> Result<(), Error> {
+        self.try_reserve(len.saturating_sub(self.len))
+    }
+
     unsafe fn write(&mut self, len: usize, fill: impl FnOnce(&mut [u8])) -> Result<(), Error> {
-        self.try_reserve(len.saturating_sub(self.len))?;
+        self.make_room(len)?;
         self.clear();
         // SAFETY: this is what is asked here too, and there is no last byte.
         unsafe { self.add(len, fill) }
@@ -66,6 +73,10 @@ impl sealed::Room for BitmapBuf {
 }
 
 impl sealed::Room for [u8] {
+    fn make_room(&mut self, len: usize) -> Result<(), Error> {
+        first_of(self, mask_c::row_mask_room(len)).map(|_| ())
+    }
+
     unsafe fn write(&mut self, len: usize, fill: impl FnOnce(&mut [u8])) -> Result<(), Error> {
         fill(first_of(self, mask_c::row_mask_room(len))?);
         Ok(())
@@ -78,6 +89,10 @@ pub(crate) struct New(Option<BitmapBuf>);
 impl Room for New {}
 
 impl sealed::Room for New {
+    fn make_room(&mut self, _len: usize) -> Result<(), Error> {
+        Ok(())
+    }
+
     #[inline]
     unsafe fn write(&mut self, len: usize, fill: impl FnOnce(&mut [u8])) -> Result<(), Error> {
         // SAFETY: this is what is asked here too.
@@ -95,6 +110,26 @@ pub(crate) fn made<T>(
     let mut new = New(None);
     write(&mut new)?;
     Ok(new.0.unwrap_or_default())
+}
+
+/// Writes `len` values into each of two, and into neither where one of them has no room.
+///
+/// # Safety
+/// `fill` writes each byte that it gets, and reads none before.
+pub(crate) unsafe fn write_both(
+    one: &mut (impl Room + ?Sized),
+    other: &mut (impl Room + ?Sized),
+    len: usize,
+    fill: impl FnOnce(&mut [u8], &mut [u8]),
+) -> Result<(), Error> {
+    one.make_room(len)?;
+    other.make_room(len)?;
+    // SAFETY: this is what is asked here too, and where the second is refused nothing of the first is kept.
+    unsafe {
+        one.write(len, |out| {
+            other.write(len, |more| fill(out, more)).expect("it has room");
+        })
+    }
 }
 
 /// The first `needed` items.

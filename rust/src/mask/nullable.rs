@@ -1,8 +1,8 @@
 //! Calls of truth values with nulls under their plain names, and what Rust has for each value. Each panics where a condition is
 //! broken, as the one does whose name begins with `try_`, and ends the process where memory is refused.
 
-use crate::bitmap::alike::PRINTED;
 use crate::memory::granted;
+use crate::nullable::alike::describe;
 use crate::proved::mask_bits::{BitBuffer, BitBufferMut, NullableBitBuffer};
 use core::fmt;
 use core::ops::Not;
@@ -137,18 +137,6 @@ impl FromIterator<Option<bool>> for NullableBitBuffer {
 /// The values, `?` for a null, or of more than 64 the first of them and the length.
 impl fmt::Debug for NullableBitBuffer {
     fn fmt(&self, f: &mut fmt::Formatter<'_>) -> fmt::Result {
-        f.write_str("NullableBitBuffer(")?;
-        for (i, value) in self.values().iter().take(PRINTED).enumerate() {
-            let is_valid = self.validity().is_none_or(|it| it.value(i));
-            f.write_str(match (is_valid, value) {
-                (false, _) => "?",
-                (true, false) => "0",
-                (true, true) => "1",
-            })?;
-        }
-        if self.len() > PRINTED {
-            write!(f, ".., len={}", self.len())?;
-        }
-        f.write_str(")")
+        describe("NullableBitBuffer", self.into(), f)
     }
 }

@@ -4,6 +4,7 @@
 mod lists;
 mod made_of;
 mod makes;
+mod nullables;
 mod pairs;
 mod ranges;
 mod reads;

@@ -27,6 +27,11 @@ pub fn pairs(seen: &mut Comparisons, random: &mut Generator, list: &[bool], bitm
             |a, b, out| a.and_not_into(b, out),
             &want(|a, b| a && !b),
         ),
+        into(
+            |a, b, out| a.or_not_into(b, out),
+            |a, b, out| a.or_not_into(b, out),
+            &want(|a, b| a || !b),
+        ),
         into(|a, b, out| a.xor_into(b, out), |a, b, out| a.xor_into(b, out), &want(|a, b| a != b)),
         into(|a, _, out| a.not_into(out), |a, _, out| a.not_into(out), &not),
         into(|a, _, out| a.copy_into(out), |a, _, out| a.copy_into(out), list),
