@@ -112,14 +112,15 @@ fn with_validity<'a>(
     ensures within { (n : ℕ) → IsWithinBytes values.now offset n
         → IsValidityWithin validity.now validity_offset n → HasValues result n }
 {
+    let values = (values, offset);
     if validity.is_empty() {
         NullableBitmap {
-            values: (values, offset),
+            values,
             validity: None,
         }
     } else {
         NullableBitmap {
-            values: (values, offset),
+            values,
             validity: Some((validity, validity_offset)),
         }
     }
