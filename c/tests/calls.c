@@ -1,106 +1,7 @@
-/* Calls each function beside a plain loop. Bytes and rows end where a page begins that may not be
- * touched, and what is written stands at the end and at the beginning of a page between two such: a
- * read or a write outside of it stops the program. Prints how many answers it compared. */
+/* Calls each function beside a plain loop, on lists whose bytes, rows and room end at pages that may not be touched.
+ * Prints how many answers it compared. */
 #define _GNU_SOURCE
-#include "row_mask.h"
-
-#include <stdio.h>
-#include <stdlib.h>
-#include <string.h>
-#ifdef _WIN32
-#include <windows.h>
-#else
-#include <sys/mman.h>
-#include <unistd.h>
-#endif
-
-enum { LONGEST = 200 };
-
-static size_t compared;
-
-static void same(size_t got, size_t want, const char *what) {
-    compared++;
-    if (got == want)
-        return;
-    printf("%s: %zu in place of %zu\n", what, got, want);
-    exit(1);
-}
-
-static uint64_t state = 1;
-
-static uint64_t random_word(void) {
-    state ^= state << 13;
-    state ^= state >> 7;
-    state ^= state << 17;
-    return state;
-}
-
-static size_t random_below(size_t end) {
-    return (size_t)(random_word() % (end ? end : 1));
-}
-
-/* A page between two that may not be touched. */
-typedef struct room {
-    uint8_t *start, *end;
-} room;
-
-#ifdef _WIN32
-static room new_room(void) {
-    SYSTEM_INFO system;
-    DWORD before;
-    uint8_t *at;
-    room made;
-
-    GetSystemInfo(&system);
-    at = VirtualAlloc(NULL, 3 * system.dwPageSize, MEM_RESERVE | MEM_COMMIT, PAGE_READWRITE);
-    if (at == NULL || !VirtualProtect(at, system.dwPageSize, PAGE_NOACCESS, &before)
-        || !VirtualProtect(at + 2 * system.dwPageSize, system.dwPageSize, PAGE_NOACCESS, &before))
-        exit(2);
-    made.start = at + system.dwPageSize;
-    made.end = at + 2 * system.dwPageSize;
-    return made;
-}
-#else
-static room new_room(void) {
-    size_t page = (size_t)sysconf(_SC_PAGESIZE);
-    uint8_t *at = mmap(NULL, 3 * page, PROT_READ | PROT_WRITE, MAP_PRIVATE | MAP_ANONYMOUS, -1, 0);
-    room made;
-
-    if (at == MAP_FAILED || mprotect(at, page, PROT_NONE) != 0
-        || mprotect(at + 2 * page, page, PROT_NONE) != 0)
-        exit(2);
-    made.start = at + page;
-    made.end = at + 2 * page;
-    return made;
-}
-#endif
-
-/* A list, and the bitmap that has it from a bit on, among random bits. */
-typedef struct bitmap {
-    bool list[LONGEST];
-    uint8_t *bytes;
-    size_t size, offset, len;
-} bitmap;
-
-static void fill(bitmap *made, room where, size_t offset, size_t len, unsigned share) {
-    size_t i;
-
-    made->size = (offset + len + 7) / 8;
-    made->bytes = where.end - made->size;
-    made->offset = offset;
-    made->len = len;
-    for (i = 0; i < made->size; i++)
-        made->bytes[i] = (uint8_t)random_word();
-    for (i = 0; i < len; i++) {
-        size_t p = offset + i;
-        uint8_t bit = (uint8_t)(1u << (p % 8));
-        made->list[i] = random_word() % 256 < share;
-        made->bytes[p / 8] = (uint8_t)(made->list[i] ? made->bytes[p / 8] | bit : made->bytes[p / 8] & ~bit);
-    }
-}
-
-#define WHOLE(b) (b)->bytes, (b)->size, (b)->offset, (b)->len
-#define BYTES(b) (b)->bytes, (b)->size, (b)->offset
+#include "lists.h"
 
 static size_t count_to(const bitmap *b, size_t end) {
     size_t i, count = 0;
@@ -115,38 +16,6 @@ static size_t next_in(const bitmap *b, size_t from, bool value) {
         from++;
     return from;
 }
-
-/* Where a bitmap is written: at the beginning of its page, at the end of it, and with room to spare. */
-enum { FIRST, LAST, ROOMY, PLACES, MARK = 0xA5 };
-
-static size_t size_at(int place, size_t len) {
-    return (len + 7) / 8 + (place == ROOMY ? 11 : 0);
-}
-
-static uint8_t *marked(room where, int place, size_t size) {
-    memset(where.start, MARK, (size_t)(where.end - where.start));
-    return place == LAST ? where.end - size : where.start;
-}
-
-/* The values, clear bits behind them in their byte, and all other bytes of the page as they were. */
-static void same_written(room where, const uint8_t *out, size_t len, const bool *want, const char *what) {
-    size_t i, size = (len + 7) / 8;
-    const uint8_t *it;
-
-    for (i = 0; i < 8 * size; i++)
-        same((size_t)(out[i / 8] >> (i % 8) & 1), i < len && want[i], what);
-    for (it = where.start; it < where.end; it++)
-        if (*it != MARK && (it < out || it >= out + size))
-            same(*it, MARK, what);
-    compared++;
-}
-
-#define WRITES(where, len, want, call, ...)                                \
-    for (place = 0; place < PLACES; place++) {                             \
-        uint8_t *out = marked(where, place, size_at(place, len));          \
-        call(__VA_ARGS__, out, size_at(place, len));                       \
-        same_written(where, out, len, want, #call);                        \
-    }
 
 #define CHANGES(where, len, list, want, call, ...)                         \
     for (place = 0; place < PLACES; place++) {                             \
@@ -240,7 +109,8 @@ static void walks_runs(const bitmap *b, room out_room) {
 
 static void combines(const bitmap *a, const bitmap *b, room where) {
     size_t i, len = a->len;
-    bool and[LONGEST], or[LONGEST], and_not[LONGEST], xor[LONGEST], not[LONGEST], equal = true;
+    bool and[LONGEST], or[LONGEST], and_not[LONGEST], or_not[LONGEST], xor[LONGEST], not[LONGEST],
+        equal = true;
     size_t both = 0, first_alone = 0;
     int place;
 
@@ -248,6 +118,7 @@ static void combines(const bitmap *a, const bitmap *b, room where) {
         and[i] = a->list[i] && b->list[i];
         or[i] = a->list[i] || b->list[i];
         and_not[i] = a->list[i] && !b->list[i];
+        or_not[i] = a->list[i] || !b->list[i];
         xor[i] = a->list[i] != b->list[i];
         not[i] = !a->list[i];
         equal = equal && a->list[i] == b->list[i];
@@ -257,6 +128,7 @@ static void combines(const bitmap *a, const bitmap *b, room where) {
     WRITES(where, len, and, row_mask_and, BYTES(a), BYTES(b), len)
     WRITES(where, len, or, row_mask_or, BYTES(a), BYTES(b), len)
     WRITES(where, len, and_not, row_mask_and_not, BYTES(a), BYTES(b), len)
+    WRITES(where, len, or_not, row_mask_or_not, BYTES(a), BYTES(b), len)
     WRITES(where, len, xor, row_mask_xor, BYTES(a), BYTES(b), len)
     WRITES(where, len, not, row_mask_not, WHOLE(a))
     CHANGES(where, len, a->list, and, row_mask_and_in_place, BYTES(b), len)
@@ -577,9 +449,12 @@ static void nothing(void) {
     row_mask_and(NULL, 0, 0, NULL, 0, 0, 0, NULL, 0);
     row_mask_or(NULL, 0, 0, NULL, 0, 0, 0, NULL, 0);
     row_mask_and_not(NULL, 0, 0, NULL, 0, 0, 0, NULL, 0);
+    row_mask_or_not(NULL, 0, 0, NULL, 0, 0, 0, NULL, 0);
     row_mask_xor(NULL, 0, 0, NULL, 0, 0, 0, NULL, 0);
     row_mask_not(NULL, 0, 0, 0, NULL, 0);
     row_mask_copy(NULL, 0, 0, 0, NULL, 0);
+    row_mask_and_kleene(NULL, 0, 0, NULL, 0, 0, NULL, 0, 0, NULL, 0, 0, 0, NULL, 0, NULL, 0);
+    row_mask_or_kleene(NULL, 0, 0, NULL, 0, 0, NULL, 0, 0, NULL, 0, 0, 0, NULL, 0, NULL, 0);
     row_mask_and_in_place(NULL, 0, NULL, 0, 0, 0);
     row_mask_or_in_place(NULL, 0, NULL, 0, 0, 0);
     row_mask_and_not_in_place(NULL, 0, NULL, 0, 0, 0);
