@@ -6,6 +6,8 @@ use row_mask::{Bitmap, BitmapBuf, Error, NullableBitBuffer, NullableBitmap, Null
 type Value = Option<bool>;
 type Into<R> = fn(NullableBitmap<'_>, NullableBitmap<'_>, &mut R, &mut R) -> Result<(), Error>;
 type Made = fn(NullableBitmap<'_>, NullableBitmap<'_>) -> NullableBitmapBuf;
+/// A call into bytes, into bitmaps, and anew.
+type Call = (Into<[u8]>, Into<BitmapBuf>, Made);
 
 const THREE: [Value; 3] = [Some(true), Some(false), None];
 
@@ -60,27 +62,21 @@ fn pairs(seen: &mut Comparisons, random: &mut Generator, a: &Held, b: &Held) {
     let want = |of: fn(Value, Value) -> Value| {
         a.list.iter().zip(&b.list).map(|(a, b)| of(*a, *b)).collect::<Vec<_>>()
     };
-    let calls: [(Into<[u8]>, Into<BitmapBuf>, Made, Vec<Value>); 3] = [
+    let calls: [Call; 3] = [
         (
             |a, b, v, w| a.and_kleene_into(b, v, w),
             |a, b, v, w| a.and_kleene_into(b, v, w),
             |a, b| a.and_kleene(b).unwrap(),
-            want(and),
         ),
         (
             |a, b, v, w| a.or_kleene_into(b, v, w),
             |a, b, v, w| a.or_kleene_into(b, v, w),
             |a, b| a.or_kleene(b).unwrap(),
-            want(or),
         ),
-        (
-            |a, _, v, w| a.not_into(v, w),
-            |a, _, v, w| a.not_into(v, w),
-            |a, _| !a,
-            want(|a, _| a.map(|a| !a)),
-        ),
+        (|a, _, v, w| a.not_into(v, w), |a, _, v, w| a.not_into(v, w), |a, _| !a),
     ];
-    for (bytes, buf, new, want) in calls {
+    let wants = [want(and), want(or), want(|a, _| a.map(|a| !a))];
+    for ((bytes, buf, new), want) in calls.into_iter().zip(wants) {
         into_bytes(seen, bytes, (one, other), &want);
         into_bufs(seen, random, buf, (one, other), &want);
         made(seen, &new(one, other), &want);
