@@ -9,10 +9,10 @@ pub use Rattle.vortex_mask.proofs.Common.{padded_part, padded_remainder, positio
 pub use Rattle.vortex_mask.proofs.Common.{take_all, take_at, take_more, true, zero, ℕ, ◌%◌, ◌&&◌, ◌*◌, ◌++◌, ◌+◌, ◌-◌, ◌/◌, ◌<◌, ◌^◌, ◌||◌, ◌↔◌, ◌∙◌, ◌∷◌, ◌≡◌, ◌≢◌, ◌≤◌}
 unfoldable pub use Rattle.mask_bits.proofs.Common.{chosen}
 pub use Rattle.mask_bits.proofs.Common.{IsNonDecreasing, bits_of_words, combined, cons_option, drop-put_mid, get_or-between, items_where_true, runs_from, shr_and_one, slice_get-map, take-append-le, take_rest, values_so_far}
-pub use Rattle.mask_c.specs.Bitmap.{AreClearBehind, IsFilled, IsSubset}
+pub use Rattle.mask_c.specs.Bitmap.{AreClearBehind, IsFilled, IsNarrowed, IsSubset}
 unfoldable pub use Rattle.mask_c.specs.Strings.{sizes, strings}
 pub use Rattle.mask_c.specs.Strings.{ends_from, items_at, offsets_of}
-pub use Rattle.std.proofs.Common.{add_assoc, below_more, get_or-set_other, get_or-set_same, slice_set, rules}
+pub use Rattle.std.proofs.Common.{add_assoc, below_more, get_or-set_other, get_or-set_same, slice_set, rules, ◌⊎◌}
 pub use Rattle.std.proofs.Math.ListN.{drop_of_length-le}
 pub use Rattle.std.proofs.Math.Seq.{drop-append_seam, take-append_seam, take-suc-set}
 pub use Rattle.std.proofs.lemmas.Bool.{false≢true}
@@ -38,7 +38,7 @@ pub use Rattle.mask_bits.proofs.Lists.Words.BackingBitLemmas.{bit-window, bitmap
 pub use Rattle.mask_bits.proofs.Lists.Words.BlockLemmas.{block-more, indices-none}
 pub use Rattle.mask_bits.proofs.Lists.Words.FrontLemmas.{behind-further, behind-later, front-same, front-taken, get_or-put_mid_above, get_or-put_mid_below, get_or-put_mid_inside, get_or-window, length-window, put-before, window-take, window_from_bits}
 pub use Rattle.mask_bits.proofs.Lists.Words.PaddedLemmas.{get_or-padded_part, length-padded_part, padded_part-whole, padded_part_from_values}
-pub use Rattle.mask_bits.proofs.Lists.Words.ShiftLemmas.{bit_at-low_mask, bit_at-mod, bit_at-past_mask, bit_at-shl_high, bit_at-shl_low, get_or-word_bits_or}
+pub use Rattle.mask_bits.proofs.Lists.Words.ShiftLemmas.{bit_at-low_mask, bit_at-mod, bit_at-past_mask, bit_at-shl_high, bit_at-shl_low, get_or-word_bits_and, get_or-word_bits_or}
 pub use Rattle.mask_bits.proofs.Lists.Words.WordLemmas.{count-word_bits, get_or-word_bits, length-word_bits}
 pub use Rattle.mask_c.specs.declared.runs.RowMaskRun.{RowMaskRun}
 pub use Rattle.vortex_mask.proofs.Lists.DepositLawLemmas.{deposit_is_rank_intersection}

@@ -10,6 +10,7 @@ mod IndexLemmas
 mod LastLemmas
 mod LastRankLemmas
 mod NullableLemmas
+mod NarrowedLemmas
 mod RunLemmas
 mod ShortStringLemmas
 mod StringLemmas
