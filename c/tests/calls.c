@@ -17,11 +17,14 @@ static size_t next_in(const bitmap *b, size_t from, bool value) {
     return from;
 }
 
+#define HOLDS(out, len, list)                                              \
+    for (i = 0; i < len; i++)                                              \
+        out[i / 8] = (uint8_t)((out[i / 8] & ~(1u << (i % 8))) | (unsigned)list[i] << (i % 8));
+
 #define CHANGES(where, len, list, want, call, ...)                         \
     for (place = 0; place < PLACES; place++) {                             \
         uint8_t *out = marked(where, place, size_at(place, len));          \
-        for (i = 0; i < len; i++)                                          \
-            out[i / 8] = (uint8_t)((out[i / 8] & ~(1u << (i % 8))) | (unsigned)list[i] << (i % 8)); \
+        HOLDS(out, len, list)                                              \
         call(out, size_at(place, len), __VA_ARGS__);                       \
         same_written(where, out, len, want, #call);                        \
     }
@@ -199,6 +202,107 @@ static void from_bools(const bitmap *b, room bools_room, room where) {
     for (i = 0; i < b->len; i++)
         values[i] = b->list[i];
     WRITES(where, b->len, b->list, row_mask_from_bools, values, b->len)
+}
+
+/* The values of one bitmap that are true among those of a list too. */
+static void and_bools(const bitmap *a, const bitmap *b, room bools_room, room where) {
+    bool *values = (bool *)(void *)bools_room.end - b->len, want[LONGEST];
+    size_t i;
+    int place;
+
+    for (i = 0; i < b->len; i++) {
+        values[i] = b->list[i];
+        want[i] = a->list[i] && b->list[i];
+    }
+    CHANGES(where, b->len, a->list, want, row_mask_and_bools_in_place, values, b->len)
+}
+
+/* The rows below a limit, by the loops of the header. Of 64 rows before that none, a few or all are left. */
+enum { MOST_ROWS = 1700 };
+
+#define ASKS(name, type, most)                                                      \
+    static void name(size_t len, unsigned limit, room rows_room, room where) {      \
+        bool below[MOST_ROWS], left[MOST_ROWS], both[MOST_ROWS];                    \
+        type *rows;                                                                 \
+        size_t i;                                                                   \
+        int place;                                                                  \
+        if (len > most)                                                             \
+            return;                                                                 \
+        rows = (type *)(void *)rows_room.end - len;                                 \
+        for (i = 0; i < len; i++) {                                                 \
+            rows[i] = (type)random_below(100);                                      \
+            below[i] = rows[i] < (type)limit;                                       \
+            left[i] = random_below(100) < (i / 64 % 3 == 0 ? limit : i / 64 % 3 == 1 ? 0 : 5); \
+            both[i] = left[i] && below[i];                                          \
+        }                                                                           \
+        for (place = 0; place < PLACES; place++) {                                  \
+            uint8_t *out = marked(where, place, size_at(place, len));               \
+            ROW_MASK_FROM_ROWS(out, len, row, rows[row] < (type)limit);             \
+            same_written(where, out, len, below, "FROM_ROWS of " #type);            \
+            out = marked(where, place, size_at(place, len));                        \
+            HOLDS(out, len, left)                                                   \
+            ROW_MASK_RETAIN_ROWS(out, len, row, rows[row] < (type)limit);           \
+            same_written(where, out, len, both, "RETAIN_ROWS of " #type);           \
+        }                                                                           \
+    }
+
+ASKS(asks_1, int8_t, MOST_ROWS)
+ASKS(asks_2, uint16_t, MOST_ROWS)
+ASKS(asks_4, int32_t, 1000)
+ASKS(asks_8, int64_t, 500)
+ASKS(asks_floats, float, 1000)
+ASKS(asks_doubles, double, 500)
+
+/* Which rows are asked: all in their order, or those of 64 where one is left. What else is passed is computed once. */
+typedef struct asked {
+    size_t rows[MOST_ROWS], count;
+} asked;
+
+static bool ask(asked *it, size_t row) {
+    it->rows[it->count++] = row;
+    return row % 3 == 0;
+}
+
+static void asks_once(size_t len, room where) {
+    size_t size = (len + 7) / 8, computed = 0, asked_now, i, word;
+    uint8_t *out = marked(where, LAST, size);
+    static bool all[MOST_ROWS], third[MOST_ROWS], fifth[MOST_ROWS];
+    static asked it;
+
+    for (i = 0; i < len; i++) {
+        all[i] = true;
+        third[i] = i % 3 == 0;
+        fifth[i] = i % 15 == 0 && i / 64 % 2 == 0;
+    }
+    it.count = 0;
+    ROW_MASK_FROM_ROWS((computed++, out), (computed++, len), row, ask(&it, row));
+    same(it.count, len, "FROM_ROWS");
+    for (i = 0; i < len; i++)
+        same(it.rows[i], i, "FROM_ROWS");
+    same_written(where, out, len, third, "FROM_ROWS");
+    for (word = 1; 64 * word < len; word += 2)
+        memset(out + 8 * word, 0, size - 8 * word < 8 ? size - 8 * word : 8);
+    for (i = 0; i < len; i++)
+        if (i % 5 != 0)
+            out[i / 8] &= (uint8_t)~(1u << (i % 8));
+    it.count = 0;
+    ROW_MASK_RETAIN_ROWS((computed++, out), (computed++, len), row, ask(&it, row));
+    for (word = 0, asked_now = 0; 64 * word < len; word++) {
+        bool any = false;
+        for (i = 64 * word; i < len && i < 64 * word + 64; i++)
+            any = any || fifth[i];
+        for (i = 64 * word; any && i < len && i < 64 * word + 64; i++)
+            same(it.rows[asked_now++], i, "RETAIN_ROWS");
+    }
+    same(it.count, asked_now, "RETAIN_ROWS");
+    same_written(where, out, len, fifth, "RETAIN_ROWS");
+    same(computed, 4, "FROM_ROWS and RETAIN_ROWS");
+    ROW_MASK_FROM_ROWS(out, len, row, 2);
+    same_written(where, out, len, all, "FROM_ROWS");
+    ROW_MASK_RETAIN_ROWS(out, len, row, third[row] && !fifth[row]);
+    for (i = 0; i < len; i++)
+        third[i] = third[i] && !fifth[i];
+    same_written(where, out, len, third, "RETAIN_ROWS");
 }
 
 /* The bitmap of its own indices, backwards and the first of them twice. */
@@ -461,6 +565,9 @@ static void nothing(void) {
     row_mask_xor_in_place(NULL, 0, NULL, 0, 0, 0);
     row_mask_not_in_place(NULL, 0, 0);
     row_mask_from_bools(NULL, 0, NULL, 0);
+    row_mask_and_bools_in_place(NULL, 0, NULL, 0);
+    ROW_MASK_FROM_ROWS(NULL, 0, row, true);
+    ROW_MASK_RETAIN_ROWS(NULL, 0, row, true);
     row_mask_from_indices(NULL, 0, 0, NULL, 0);
     row_mask_fill_range(NULL, 0, 0, 0, true);
     row_mask_append(NULL, 0, 0, NULL, 0, 0, 0);
@@ -512,6 +619,7 @@ int main(void) {
                 from_bools(&a, second, third);
                 from_indices(&a, second, third);
                 fill(&b, second, random_below(16), len, 128);
+                and_bools(&a, &b, third, fourth);
                 combines(&a, &b, third);
                 fill(&b, second, random_below(16), random_below(LONGEST + 1), 128);
                 appends(&a, &b, third);
@@ -529,6 +637,18 @@ int main(void) {
                     strings_8(&a, second, third, fourth);
             }
     blocks(first, second, third);
+    for (len = 0; len <= MOST_ROWS; len += len < LONGEST ? 1 : 1 + len / 8) {
+        unsigned limit;
+        for (limit = 0; limit <= 100; limit += 25) {
+            asks_1(len, limit, first, second);
+            asks_2(len, limit, first, second);
+            asks_4(len, limit, first, second);
+            asks_8(len, limit, first, second);
+            asks_floats(len, limit, first, second);
+            asks_doubles(len, limit, first, second);
+        }
+        asks_once(len, second);
+    }
     for (len = 0; len <= LONGEST; len += 1 + len / 8) {
         fills(first, len / 8);
         take_1(len, first, second, third);
