@@ -329,7 +329,7 @@ static void refused(
 
 static void refuses_formats(void) {
     static const char *const others[] = {
-        "n", "vu", "vz", "+l", "+L", "+vl", "+vL", "+w:3", "+m", "+ud:0,1", "+us:0,1", "+r", "", "x", "cc", "bb", "uu",
+        "n", "v", "vx", "vuu", "+ll", "+lu", "+vl", "+vL", "+w:3", "+m", "+ud:0,1", "+us:0,1", "+r", "", "x", "cc", "bb", "uu",
         "w", "w:", "w:0", "w:03", "w:-1", "w:3x", "w:4294967296", "w:99999999999999999999", "d", "d:", "d:3", "d:3,1,",
         "d:3,1,7", "d:3,1,129", "d:x,y", "d:,", "d:3,", "d:,1", "d:x,1", "d:3,y", "d:0,1", "d:03,1", "d:-3,1", "d:+3,1",
         "d:3,-", "d:3,--1", "d:3,+1", "d:3, 1", "d:3,1,x", "d:3,1,-32", "d:3,1,032", "d:3,1,32,7", "d:3,1x32",
@@ -350,12 +350,6 @@ static void refuses_formats(void) {
         parent.children[CHILDREN - 1]->format = others[i];
         refused(&parent, &struct_array, &by, ENOTSUP, what);
     }
-    schema.format = "i";
-    schema.dictionary = &parent;
-    refused(&schema, &array, &by, ENOTSUP, "dictionaries are not supported");
-    schema.dictionary = NULL;
-    array.dictionary = &struct_array;
-    refused(&schema, &array, &by, ENOTSUP, "dictionaries are not supported");
     array.release(&array);
     struct_array.release(&struct_array);
     schema.release(&schema);
