@@ -1,122 +1,111 @@
-//! A column that is filtered, or the struct of all columns.
+//! A column that is filtered, or the struct of all columns: what is refused of it, and what is read.
 
 use super::format::Format;
-use super::made::{Buffer, Made, room};
-use super::{ArrowArray, ArrowError, ArrowSchema, MOST_COLUMNS, MOST_STRUCTS};
+use super::{ArrowArray, ArrowError, ArrowSchema, Call, MOST_COLUMNS, MOST_NESTED};
+use crate::Bitmap;
 use crate::kit::Text;
-use crate::{Bitmap, Offset, Row, Selection, Strings};
-use alloc::{string::String, vec::Vec};
-use core::cell::Cell;
-use core::ffi::CStr;
-use core::ptr::copy_nonoverlapping;
+use alloc::string::String;
+use core::ffi::{CStr, c_void};
 use core::slice;
 
-/// The rows of an array from `start` on, as many as rows that are chosen from. All that is unsafe here rests on what the
-/// caller of `filter` owes: schema and array are as Arrow says.
+/// The `len` rows of an array from `start` on. All that is unsafe here rests on what the caller of `filter` owes: schema
+/// and array are as Arrow says.
 #[derive(Clone, Copy)]
 pub(super) struct Column<'a> {
     pub schema: &'a ArrowSchema,
-    pub array: &'a ArrowArray,
+    /// The array. Of a call that moves nothing it is only read.
+    pub place: *mut ArrowArray,
     pub start: usize,
-    pub rows: &'a Selection,
-    /// How many structs it lies in.
-    pub structs: usize,
-    /// How many children of structs the call has met.
-    pub met: &'a Cell<usize>,
+    pub len: usize,
+    /// How many columns it lies in.
+    pub nested: usize,
+    pub call: &'a Call,
 }
 
 impl<'a> Column<'a> {
-    pub(super) fn filtered(self) -> Result<ArrowArray, ArrowError> {
-        let format = self.format()?;
-        let column = self.at_its_offset(format)?;
-        let mut made = Made::new(self.children())?;
-        let null_count = column.validity(&mut made)?;
-        match format {
-            Format::Bits => column.bits(&mut made)?,
-            Format::Rows(1) => column.rows::<u8>(&mut made)?,
-            Format::Rows(2) => column.rows::<u16>(&mut made)?,
-            Format::Rows(4) => column.rows::<u32>(&mut made)?,
-            Format::Rows(8) => column.rows::<u64>(&mut made)?,
-            Format::Rows(16) => column.rows::<u128>(&mut made)?,
-            Format::Rows(width) => column.any_rows(width, &mut made)?,
-            Format::Strings => column.strings::<i32>(&mut made)?,
-            Format::LargeStrings => column.strings::<i64>(&mut made)?,
-            Format::Struct => {
-                for i in 0..self.children() {
-                    made.push(column.child(i)?.filtered()?);
-                }
-            }
-        }
-        Ok(made.finish(self.rows.count(), null_count, format.buffers())?)
-    }
-
     // ---- what is refused ----
 
-    fn format(self) -> Result<Format, ArrowError> {
-        if self.schema.format.is_null() {
-            return Err(self.bad("format"));
-        }
-        // SAFETY: a text ends with a 0.
-        let text = unsafe { CStr::from_ptr(self.schema.format) };
-        let has_values = self.schema.dictionary.is_null() && self.array.dictionary.is_null();
-        let format = Format::of(text.to_bytes()).filter(|_| has_values);
-        format.ok_or_else(|| ArrowError::NotSupported { column: self.name(), format: own(text) })
-    }
-
-    /// The same rows, counted from the front of the buffers. The array's numbers fit its schema.
-    fn at_its_offset(self, format: Format) -> Result<Column<'a>, ArrowError> {
-        let array = self.array;
+    /// The same rows, counted from the front of the buffers, and what is in these. All that the array says fits its
+    /// schema, but for its children, and its offsets.
+    pub(super) fn checked(self) -> Result<(Column<'a>, Format), ArrowError> {
+        let (array, format) = (self.array(), self.format()?);
         let start = self.first_row().ok_or_else(|| self.bad("length or offset"))?;
-        if usize::try_from(array.n_buffers) != Ok(format.buffers()) || array.buffers.is_null() {
+        if !format.takes_buffers(array.n_buffers) || array.buffers.is_null() {
             return Err(self.bad("number of buffers"));
         }
         if array.null_count < -1 || (array.null_count > 0 && self.is_absent(0)) {
             return Err(self.bad("null count"));
         }
         self.has_children(format)?;
-        if format != Format::Struct && self.len() > 0 && self.is_absent(1) {
+        if !self.has_good_dictionary() {
+            return Err(self.bad("dictionary"));
+        }
+        if format != Format::Struct && self.len > 0 && self.is_absent(1) {
             return Err(self.bad("buffer"));
         }
         // (so no product of a width and some of these rows is too large)
         if self.end().and_then(|end| format.size(end)).is_none() {
             return Err(self.bad("length or offset"));
         }
-        Ok(Column { start, ..self })
+        self.meets_others()?;
+        Ok((Column { start, ..self }, format))
+    }
+
+    fn format(self) -> Result<Format, ArrowError> {
+        if self.schema.format.is_null() {
+            return Err(self.bad("format"));
+        }
+        let named = || ArrowError::NotSupported { column: self.name(), format: own(self.text()) };
+        Format::of(self.text().to_bytes()).ok_or_else(named)
     }
 
     fn first_row(self) -> Option<usize> {
         let end = self.end()?;
-        let length = usize::try_from(self.array.length).ok()?;
-        (self.start.checked_add(self.len())? <= length).then_some(self.start + (end - length))
+        let length = usize::try_from(self.array().length).ok()?;
+        (self.start.checked_add(self.len)? <= length).then_some(self.start + (end - length))
     }
 
     /// The row behind its last one, counted from the front of the buffers.
     fn end(self) -> Option<usize> {
-        let length = usize::try_from(self.array.length).ok()?;
-        let offset = usize::try_from(self.array.offset).ok()?;
+        let length = usize::try_from(self.array().length).ok()?;
+        let offset = usize::try_from(self.array().offset).ok()?;
         length.checked_add(offset).filter(|end| *end <= isize::MAX.cast_unsigned())
     }
 
-    /// Tests that there are as many children as both say, and no more than a call takes.
     fn has_children(self, format: Format) -> Result<(), ArrowError> {
-        let (array, schema) = (self.array, self.schema);
-        let may_have = format == Format::Struct && array.n_children > 0;
-        let has_lists = may_have && !array.children.is_null() && !schema.children.is_null();
-        let fits = array.n_children == 0 || has_lists;
+        let (array, schema) = (self.array(), self.schema);
+        let has_lists = !array.children.is_null() && !schema.children.is_null();
+        let fits = format.takes_children(array.n_children) && (array.n_children == 0 || has_lists);
         if !fits || array.n_children != schema.n_children {
             return Err(self.bad("number of children"));
         }
-        if self.children() > 0 && self.structs == MOST_STRUCTS {
+        Ok(())
+    }
+
+    /// Whether there is no dictionary, or one with keys that are whole numbers.
+    fn has_good_dictionary(self) -> bool {
+        let is_whole = matches!(
+            self.text().to_bytes(),
+            [b'c' | b'C' | b's' | b'S' | b'i' | b'I' | b'l' | b'L']
+        );
+        self.has_no_dictionary() || (is_whole && self.dictionary().is_some())
+    }
+
+    /// Tests that there are no more columns in this one than a call takes.
+    fn meets_others(self) -> Result<(), ArrowError> {
+        let copies_dictionary = !self.has_no_dictionary() && !self.call.moves;
+        let others = if copies_dictionary { 1 } else { self.children() };
+        if others > 0 && self.nested == MOST_NESTED {
             return Err(ArrowError::NestedTooDeep { column: self.name() });
         }
-        self.met.set(self.met.get().saturating_add(self.children()));
-        if self.met.get() > MOST_COLUMNS {
+        self.call.met.set(self.call.met.get().saturating_add(others));
+        if self.call.met.get() > MOST_COLUMNS {
             return Err(ArrowError::TooManyColumns { column: self.name() });
         }
         Ok(())
     }
 
-    fn bad(self, what: &'static str) -> ArrowError {
+    pub(super) fn bad(self, what: &'static str) -> ArrowError {
         ArrowError::BadArray { column: self.name(), what }
     }
 
@@ -128,126 +117,98 @@ impl<'a> Column<'a> {
         own(unsafe { CStr::from_ptr(self.schema.name) })
     }
 
+    fn text(self) -> &'a CStr {
+        // SAFETY: a text ends with a 0.
+        unsafe { CStr::from_ptr(self.schema.format) }
+    }
+
     // ---- what is read ----
 
-    fn len(self) -> usize {
-        self.rows.len()
+    /// The array, until it is moved.
+    pub(super) fn array(self) -> &'a ArrowArray {
+        // SAFETY: it is there.
+        unsafe { &*self.place }
     }
 
-    fn children(self) -> usize {
-        usize::try_from(self.array.n_children).unwrap_or(0)
+    pub(super) fn children(self) -> usize {
+        usize::try_from(self.array().n_children).unwrap_or(0)
     }
 
-    fn child(self, i: usize) -> Result<Column<'a>, ArrowError> {
+    pub(super) fn buffers(self) -> usize {
+        usize::try_from(self.array().n_buffers).unwrap_or(0)
+    }
+
+    /// So many rows of a child.
+    pub(super) fn child(
+        self,
+        i: usize,
+        start: usize,
+        len: usize,
+    ) -> Result<Column<'a>, ArrowError> {
         // SAFETY: there are as many as both say, which is the same.
-        let (schema, array) = unsafe {
-            ((*self.schema.children.add(i)).as_ref(), (*self.array.children.add(i)).as_ref())
-        };
-        match (schema, array) {
-            (Some(schema), Some(array)) if is_there(schema, array) => {
-                Ok(Column { schema, array, structs: self.structs + 1, ..self })
-            }
-            _ => Err(self.bad("child")),
-        }
+        let (schema, place) =
+            unsafe { (*self.schema.children.add(i), *self.array().children.add(i)) };
+        self.within(schema, place, start, len).ok_or_else(|| self.bad("child"))
     }
 
-    fn is_absent(self, buffer: usize) -> bool {
+    /// All values that keys are of, as both say that there are.
+    pub(super) fn dictionary(self) -> Option<Column<'a>> {
+        let place = self.array().dictionary;
+        let values = self.within(self.schema.dictionary, place, 0, 0)?;
+        // (a length below 0 is refused there)
+        Some(Column { len: usize::try_from(values.array().length).unwrap_or(0), ..values })
+    }
+
+    /// Whether neither says that there is one.
+    pub(super) fn has_no_dictionary(self) -> bool {
+        self.schema.dictionary.is_null() && self.array().dictionary.is_null()
+    }
+
+    fn within(
+        self,
+        schema: *mut ArrowSchema,
+        place: *mut ArrowArray,
+        start: usize,
+        len: usize,
+    ) -> Option<Column<'a>> {
+        // SAFETY: what isn't null is there.
+        let (schema, array) = unsafe { (schema.as_ref()?, place.as_ref()?) };
+        let column = Column { schema, place, start, len, nested: self.nested + 1, call: self.call };
+        is_there(schema, array).then_some(column)
+    }
+
+    /// Where a buffer is.
+    pub(super) fn buffer(self, buffer: usize) -> *const c_void {
         // SAFETY: there are as many buffers as its format asks for.
-        unsafe { *self.array.buffers.add(buffer) }.is_null()
+        unsafe { *self.array().buffers.add(buffer) }
+    }
+
+    pub(super) fn is_absent(self, buffer: usize) -> bool {
+        self.buffer(buffer).is_null()
     }
 
     /// The items of a buffer from item `first` on. There may be no buffer for none, and none is unaligned.
-    fn items<T>(self, buffer: usize, first: usize, count: usize) -> Result<&'a [T], ArrowError> {
+    pub(super) fn items<T>(
+        self,
+        buffer: usize,
+        first: usize,
+        count: usize,
+    ) -> Result<&'a [T], ArrowError> {
         if count == 0 {
             return Ok(&[]);
         }
-        // SAFETY: there are as many buffers as its format asks for, and so many items in them.
-        unsafe {
-            let items = (*self.array.buffers.add(buffer)).cast::<T>();
-            if items.is_null() || !items.is_aligned() {
-                return Err(self.bad("buffer"));
-            }
-            Ok(slice::from_raw_parts(items.add(first), count))
-        }
-    }
-
-    fn bitmap(self, buffer: usize) -> Result<Bitmap<'a>, ArrowError> {
-        let start = if self.len() == 0 { 0 } else { self.start };
-        let bytes = self.items(buffer, 0, (start + self.len()).div_ceil(8))?;
-        Ok(Bitmap::new(bytes, start, self.len())?)
-    }
-
-    // ---- what is made ----
-
-    /// Makes the bitmap that says which rows are null, and answers how many.
-    fn validity(self, made: &mut Made) -> Result<usize, ArrowError> {
-        if self.array.null_count == 0 || self.is_absent(0) {
-            return Ok(0);
-        }
-        let chosen = self.rows.choose_bits(self.bitmap(0)?)?;
-        let nulls = chosen.len() - chosen.as_bitmap().count();
-        made.buffers[0] = Buffer::from(chosen.into_bytes());
-        Ok(nulls)
-    }
-
-    fn bits(self, made: &mut Made) -> Result<(), ArrowError> {
-        made.buffers[1] = Buffer::from(self.rows.choose_bits(self.bitmap(1)?)?.into_bytes());
-        Ok(())
-    }
-
-    fn rows<T: Row>(self, made: &mut Made) -> Result<(), ArrowError> {
-        // SAFETY: there are as many buffers as its format asks for.
-        if !unsafe { *self.array.buffers.add(1) }.cast::<T>().is_aligned() {
-            return self.any_rows(size_of::<T>(), made);
-        }
-        let rows = self.items::<T>(1, self.start, self.len())?;
-        made.buffers[1] = Buffer::from(self.rows.choose(rows)?);
-        Ok(())
-    }
-
-    /// Rows of any width, anywhere in memory, by the runs of those that are chosen.
-    fn any_rows(self, width: usize, made: &mut Made) -> Result<(), ArrowError> {
-        let from = self.items::<u8>(1, width * self.start, width * self.len())?;
-        let mut list = room::<u64>((width * self.rows.count()).div_ceil(8))?;
-        let mut to = list.as_mut_ptr().cast::<u8>();
-        for run in self.rows.as_bitmap().runs() {
-            let run = &from[width * run.start..width * run.end];
-            // SAFETY: there is memory for the bytes of all rows that are chosen.
-            unsafe {
-                copy_nonoverlapping(run.as_ptr(), to, run.len());
-                to = to.add(run.len());
-            }
-        }
-        made.buffers[1] = Buffer::from(list);
-        Ok(())
-    }
-
-    fn strings<O: Offset>(self, made: &mut Made) -> Result<(), ArrowError> {
-        let none = [O::default()];
-        let offsets = match self.len() {
-            0 => &none,
-            len => self.items::<O>(1, self.start, len + 1)?,
-        };
-        // (offsets that descend are refused below)
-        let end: usize = offsets[self.len()].try_into().unwrap_or(0);
-        if end > 0 && self.is_absent(2) {
-            return self.empty_strings(offsets, made);
-        }
-        let strings = Strings::new(offsets, self.items(2, 0, end)?)?;
-        let (offsets, bytes) = strings.choose(self.rows)?;
-        (made.buffers[1], made.buffers[2]) = (Buffer::from(offsets), Buffer::from(bytes));
-        Ok(())
-    }
-
-    /// Strings that lie behind bytes which are absent: each has to be empty.
-    fn empty_strings<O: Offset>(self, offsets: &[O], made: &mut Made) -> Result<(), ArrowError> {
-        if offsets.iter().any(|offset| *offset != offsets[0]) {
+        let items = self.buffer(buffer).cast::<T>();
+        if items.is_null() || !items.is_aligned() {
             return Err(self.bad("buffer"));
         }
-        let mut none = room(self.rows.count() + 1)?;
-        none.resize(self.rows.count() + 1, O::default());
-        (made.buffers[1], made.buffers[2]) = (Buffer::from(none), Buffer::from(Vec::<u8>::new()));
-        Ok(())
+        // SAFETY: there are so many items in it.
+        Ok(unsafe { slice::from_raw_parts(items.add(first), count) })
+    }
+
+    pub(super) fn bitmap(self, buffer: usize) -> Result<Bitmap<'a>, ArrowError> {
+        let start = if self.len == 0 { 0 } else { self.start };
+        let bytes = self.items(buffer, 0, (start + self.len).div_ceil(8))?;
+        Ok(Bitmap::new(bytes, start, self.len)?)
     }
 }
 

@@ -1,4 +1,4 @@
-use super::{MOST_COLUMNS, MOST_STRUCTS};
+use super::{MOST_COLUMNS, MOST_NESTED};
 use crate::Error;
 use alloc::string::String;
 use core::error;
@@ -9,15 +9,15 @@ use core::fmt;
 #[non_exhaustive]
 #[allow(missing_docs, reason = "the sentence of each says what its fields are")]
 pub enum ArrowError {
-    /// The `column` has a `format` that isn't filtered, or a dictionary.
+    /// The `column` has a `format` that isn't filtered.
     NotSupported { column: String, format: String },
     /// The array of this `column` doesn't fit its schema: `what` it has is wrong.
     BadArray { column: String, what: &'static str },
     /// The array or its schema was released, or moved: it has no callback that would release it.
     Released,
-    /// The children of this `column` lie in more structs than a column may.
+    /// The children of this `column`, or its dictionary, lie in more others than a column may.
     NestedTooDeep { column: String },
-    /// With the children of this `column`, more columns lie in structs than a call takes.
+    /// With the children of this `column`, or its dictionary, more columns lie in others than a call takes.
     TooManyColumns { column: String },
     /// What the call on a column was refused for.
     Refused(Error),
@@ -27,10 +27,7 @@ impl fmt::Display for ArrowError {
     fn fmt(&self, f: &mut fmt::Formatter<'_>) -> fmt::Result {
         match self {
             ArrowError::NotSupported { column, format } => {
-                write!(
-                    f,
-                    "column '{column}' of format '{format}', or its dictionary, is not supported"
-                )
+                write!(f, "column '{column}' of format '{format}' is not supported")
             }
             ArrowError::BadArray { column, what } => {
                 write!(f, "the array of column '{column}' doesn't fit its schema: bad {what}")
@@ -39,13 +36,13 @@ impl fmt::Display for ArrowError {
             ArrowError::NestedTooDeep { column } => {
                 write!(
                     f,
-                    "column '{column}' is nested too deep: its children lie in more than {MOST_STRUCTS} structs"
+                    "column '{column}' is nested too deep: its children lie in more than {MOST_NESTED} others"
                 )
             }
             ArrowError::TooManyColumns { column } => {
                 write!(
                     f,
-                    "too many columns: with the children of column '{column}' more than {MOST_COLUMNS} lie in structs"
+                    "too many columns: with the children of column '{column}' more than {MOST_COLUMNS} lie in others"
                 )
             }
             ArrowError::Refused(error) => error.fmt(f),

@@ -10,6 +10,12 @@ pub(super) enum Format {
     Strings,
     /// Offsets of 8 bytes, and bytes.
     LargeStrings,
+    /// Views of 16 bytes, any number of buffers that they are of, and the sizes of these.
+    Views,
+    /// Offsets of 4 bytes, and a child.
+    Lists,
+    /// Offsets of 8 bytes, and a child.
+    LargeLists,
     /// No buffer, but children.
     Struct,
 }
@@ -20,17 +26,30 @@ impl Format {
             b"b" => Format::Bits,
             b"u" | b"z" => Format::Strings,
             b"U" | b"Z" => Format::LargeStrings,
+            b"vu" | b"vz" => Format::Views,
+            b"+l" => Format::Lists,
+            b"+L" => Format::LargeLists,
             b"+s" => Format::Struct,
             _ => Format::Rows(width(text)?),
         })
     }
 
-    /// How many buffers an array has, that of validity among them.
-    pub(super) fn buffers(self) -> usize {
+    /// Whether an array may have so many buffers, that of validity among them.
+    pub(super) fn takes_buffers(self, count: i64) -> bool {
         match self {
-            Format::Struct => 1,
-            Format::Bits | Format::Rows(_) => 2,
-            Format::Strings | Format::LargeStrings => 3,
+            Format::Struct => count == 1,
+            Format::Bits | Format::Rows(_) | Format::Lists | Format::LargeLists => count == 2,
+            Format::Strings | Format::LargeStrings => count == 3,
+            Format::Views => (3..=i64::from(i32::MAX)).contains(&count),
+        }
+    }
+
+    /// The same of children.
+    pub(super) fn takes_children(self, count: i64) -> bool {
+        match self {
+            Format::Struct => count >= 0,
+            Format::Lists | Format::LargeLists => count == 1,
+            _ => count == 0,
         }
     }
 
@@ -40,8 +59,9 @@ impl Format {
             Format::Struct => Some(0),
             Format::Bits => Some(values.div_ceil(8)),
             Format::Rows(width) => values.checked_mul(width),
-            Format::Strings => values.checked_add(1)?.checked_mul(4),
-            Format::LargeStrings => values.checked_add(1)?.checked_mul(8),
+            Format::Views => values.checked_mul(16),
+            Format::Strings | Format::Lists => values.checked_add(1)?.checked_mul(4),
+            Format::LargeStrings | Format::LargeLists => values.checked_add(1)?.checked_mul(8),
         };
         size.filter(|size| isize::try_from(*size).is_ok())
     }

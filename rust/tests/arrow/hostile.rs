@@ -1,31 +1,31 @@
 //! Arrays that say what can't be: more rows than memory can have, children or formats that aren't there, structs that
-//! lie in themselves. Each is refused. What is just within the limits is filtered. The C library's test of this name
-//! tries the same ones, in the same order.
+//! lie in themselves. Each is refused. What is just within the limits is filtered. Each is tried by both calls. The
+//! C library's test of this name tries the same ones, in the same order, and behind them those of `hostile_nested`.
 
 use super::lent::{release_array, release_schema};
-use row_mask::arrow::{ArrowArray, ArrowError, ArrowSchema, filter};
+use row_mask::arrow::{ArrowArray, ArrowError, ArrowSchema, filter, filter_moved};
 use row_mask::{Bitmap, BitmapBuf, Selection};
 use std::ffi::{CStr, c_void};
 use std::ptr::{null, null_mut};
 
 static NUMBERS: [i32; 4] = [1, 2, 3, 4];
 
-/// Bytes that are offsets of empty strings, too, and a validity by which each row is null.
-static ZEROS: [u64; 5] = [0; 5];
+/// Bytes that are offsets of empty strings, too, and empty views, and a validity by which each row is null.
+pub static ZEROS: [u64; 9] = [0; 9];
 
 /// A column that is lent, with what its structs point to.
-struct Lent {
-    schema: ArrowSchema,
-    array: ArrowArray,
-    buffers: Vec<*const c_void>,
-    schemas: Vec<*mut ArrowSchema>,
-    arrays: Vec<*mut ArrowArray>,
-    child: Option<Box<Lent>>,
+pub struct Lent {
+    pub schema: ArrowSchema,
+    pub array: ArrowArray,
+    pub buffers: Vec<*const c_void>,
+    pub schemas: Vec<*mut ArrowSchema>,
+    pub arrays: Vec<*mut ArrowArray>,
+    pub child: Option<Box<Lent>>,
 }
 
 impl Lent {
     /// Four rows, or what the buffers have.
-    fn new(format: &'static CStr, buffers: Vec<*const c_void>) -> Box<Lent> {
+    pub fn new(format: &'static CStr, buffers: Vec<*const c_void>) -> Box<Lent> {
         let schema = ArrowSchema {
             format: format.as_ptr(),
             name: c"a".as_ptr(),
@@ -55,19 +55,23 @@ impl Lent {
         made
     }
 
-    fn numbers() -> Box<Lent> {
+    pub fn numbers() -> Box<Lent> {
         Lent::new(c"i", vec![null(), NUMBERS.as_ptr().cast()])
     }
 
     /// A struct that has this child so many times.
-    fn around(mut child: Box<Lent>, times: usize) -> Box<Lent> {
-        let mut made = Lent::new(c"+s", vec![null()]);
+    fn around(child: Box<Lent>, times: usize) -> Box<Lent> {
+        Lent::new(c"+s", vec![null()]).with(child, times)
+    }
+
+    pub fn with(self: Box<Lent>, mut child: Box<Lent>, times: usize) -> Box<Lent> {
+        let mut made = self;
         made.set_children(vec![&raw mut child.schema; times], vec![&raw mut child.array; times]);
         made.child = Some(child);
         made
     }
 
-    fn set_children(&mut self, schemas: Vec<*mut ArrowSchema>, arrays: Vec<*mut ArrowArray>) {
+    pub fn set_children(&mut self, schemas: Vec<*mut ArrowSchema>, arrays: Vec<*mut ArrowArray>) {
         (self.schemas, self.arrays) = (schemas, arrays);
         (self.schema.n_children, self.array.n_children) =
             (self.schemas.len() as i64, self.arrays.len() as i64);
@@ -80,17 +84,26 @@ impl Lent {
         (0..structs).fold(Lent::numbers(), |child, _| Lent::around(child, times))
     }
 
-    /// The rows 0, 2 and 3.
-    fn filtered(&self) -> Result<ArrowArray, ArrowError> {
+    /// The rows 0, 2 and 3, of the array itself or of a copy that is moved.
+    fn filtered(&self, moves: bool) -> Result<ArrowArray, ArrowError> {
         let len = self.array.length.try_into().unwrap();
         let rows = Selection::new(Bitmap::new(&[0b1101], 0, len).unwrap());
         // SAFETY: what is there is as Arrow says, and the rest is refused before it is read.
-        unsafe { filter(&self.schema, &self.array, &rows) }
+        unsafe {
+            if !moves {
+                return filter(&self.schema, &self.array, &rows);
+            }
+            let mut own = (&raw const self.array).read();
+            let was_there = own.release.is_some();
+            let answer = filter_moved(&self.schema, &mut own, &rows);
+            assert_eq!(own.release.is_some(), was_there && answer.is_err());
+            answer
+        }
     }
 
     #[track_caller]
-    fn is_filtered(&self) {
-        let mut made = self.filtered().unwrap();
+    pub fn is_filtered_by(&self, moves: bool) {
+        let mut made = self.filtered(moves).unwrap();
         assert_eq!(made.length, if self.array.length == 0 { 0 } else { 3 });
         // SAFETY: it is released once.
         unsafe { made.release() };
@@ -98,12 +111,24 @@ impl Lent {
     }
 
     #[track_caller]
-    fn is_refused(&self, refusal: &ArrowError) {
-        assert_eq!(&self.filtered().unwrap_err(), refusal);
+    pub fn is_filtered(&self) {
+        self.is_filtered_by(false);
+        self.is_filtered_by(true);
     }
 
     #[track_caller]
-    fn is_bad(&self, what: &'static str) {
+    pub fn is_refused_by(&self, moves: bool, refusal: &ArrowError) {
+        assert_eq!(&self.filtered(moves).unwrap_err(), refusal);
+    }
+
+    #[track_caller]
+    pub fn is_refused(&self, refusal: &ArrowError) {
+        self.is_refused_by(false, refusal);
+        self.is_refused_by(true, refusal);
+    }
+
+    #[track_caller]
+    pub fn is_bad(&self, what: &'static str) {
         self.is_refused(&ArrowError::BadArray { column: "a".into(), what });
     }
 }
@@ -117,7 +142,7 @@ const ROWS: Option<&str> = Some("length or offset");
 const BUFFER: Option<&str> = Some("buffer");
 const NULLS: Option<&str> = Some("null count");
 
-const COLUMNS: [Says; 35] = [
+const COLUMNS: [Says; 46] = [
     (c"i", 4, 0, 0, "-+", None),
     // rows that end past what memory can have
     (c"i", 4, LAST, 0, "-+", ROWS),
@@ -147,6 +172,18 @@ const COLUMNS: [Says; 35] = [
     (c"b", 0, i64::MAX, 0, "--", None),
     (c"C", 0, i64::MAX, 0, "--", None),
     (c"+s", 0, i64::MAX, 0, "-", None),
+    // buffers of views, of which one is there that has no size
+    (c"vu", 4, 0, 0, "-++", None),
+    (c"vu", 4, 0, 0, "-+-", None),
+    (c"vz", 4, 0, 0, "-+++", None),
+    (c"vz", 4, 0, 0, "-+-+", None),
+    (c"vz", 4, 0, 0, "-++-", BUFFER),
+    (c"vz", 0, 0, 0, "-++-", BUFFER),
+    (c"vu", 4, 0, 0, "--+", BUFFER),
+    (c"vu", 4, 0, 0, "-+", Some("number of buffers")),
+    (c"vu", 4, LAST, 0, "-++", ROWS),
+    (c"vu", 0, (1 << 59) - 1, 0, "---", None),
+    (c"vu", 0, 1 << 59, 0, "---", ROWS),
     // numbers of nulls
     (c"i", 4, 0, -1, "-+", None),
     (c"i", 4, 0, 4, "++", None),
@@ -241,7 +278,7 @@ fn children_that_are_none() {
     absent.is_bad("buffer");
 }
 
-fn too_deep() -> ArrowError {
+pub fn too_deep() -> ArrowError {
     ArrowError::NestedTooDeep { column: "a".into() }
 }
 
@@ -257,7 +294,7 @@ fn a_struct_that_is_its_own_child() {
         column.set_children(vec![schema; times], vec![array; times]);
         column.is_refused(&too_deep());
     }
-    let text = "column 'a' is nested too deep: its children lie in more than 64 structs";
+    let text = "column 'a' is nested too deep: its children lie in more than 64 others";
     assert_eq!(too_deep().to_string(), text);
 }
 
@@ -271,14 +308,14 @@ fn structs_in_structs() {
     Lent::nested(64, 2).is_refused(&too_many());
     Lent::nested(1, 65_536).is_filtered();
     Lent::nested(1, 65_537).is_refused(&too_many());
-    let text = "too many columns: with the children of column 'a' more than 65536 lie in structs";
+    let text = "too many columns: with the children of column 'a' more than 65536 lie in others";
     assert_eq!(too_many().to_string(), text);
 }
 
 /// The numbers in the last of 64 structs are the chosen ones, and stay where these are released.
 #[test]
 fn the_deepest_child() {
-    let mut made = Lent::nested(64, 1).filtered().unwrap();
+    let mut made = Lent::nested(64, 1).filtered(false).unwrap();
     let mut deepest = &raw mut made;
     // SAFETY: each struct has a child. It is moved, as Arrow says, and each is released once.
     unsafe {

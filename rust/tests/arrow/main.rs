@@ -10,8 +10,11 @@
 )]
 
 mod hostile;
+mod hostile_nested;
 mod lent;
 mod memory;
+mod nested;
+mod owned;
 mod refusals;
 
 use lent::{Column, FORMATS, Random, Value, values_of};

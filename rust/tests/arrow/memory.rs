@@ -1,6 +1,8 @@
 //! A process that is refused memory.
 
 use super::lent::{Column, Random};
+use super::nested::{filtered as filtered_by, refused};
+use super::owned::{FORMATS, arrays, make};
 use super::{Chosen, filtered};
 use row_mask::arrow::{ArrowError, filter};
 use row_mask::{BitmapBuf, Error, Selection};
@@ -60,6 +62,35 @@ fn each_request_for_memory_is_refused_in_turn() {
         assert!(matches!(error, ArrowError::Refused(Error::OutOfMemory { .. })), "{error}");
     }
     assert!(requests > 20, "{requests}");
+}
+
+/// A column that was not moved has all that it had.
+#[test]
+fn each_request_for_what_lies_in_others_is_refused_in_turn() {
+    let mut all = 0;
+    for (format, moves) in (0..FORMATS.len()).flat_map(|format| [(format, false), (format, true)]) {
+        let again = || make(&mut Random(20 + format as u64), format, 50, 0);
+        let (mut column, chosen) = (again(), Chosen::new(&mut Random(9), 50, 128));
+        LEFT.set(Some(usize::MAX));
+        let mut made = filtered_by(&mut column, &chosen, moves).unwrap();
+        let requests = usize::MAX - LEFT.take().unwrap();
+        // SAFETY: each is released once.
+        unsafe {
+            made.release();
+            column.array.release();
+        }
+        column = again();
+        for request in 0..requests {
+            LEFT.set(Some(request));
+            let error = refused(&mut column, &chosen, moves);
+            assert!(matches!(error, ArrowError::Refused(Error::OutOfMemory { .. })), "{error}");
+        }
+        // SAFETY: it is released once.
+        unsafe { column.array.release() };
+        assert_eq!(arrays(), 0);
+        all += requests;
+    }
+    assert!(all > 200, "{all}");
 }
 
 /// The requests of a selection are for a copy of its bitmap, and a list beside it.

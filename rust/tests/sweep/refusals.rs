@@ -144,10 +144,10 @@ fn texts_of_refusals() {
         assert_eq!(refusal.to_string(), text);
         assert_eq!(ArrowError::from(refusal).to_string(), text);
     }
-    let (column, format) = (String::from("a.b"), String::from("+l"));
+    let (column, format) = (String::from("a.b"), String::from("+r"));
     let text = "the array of column 'a.b' doesn't fit its schema: bad length";
     assert_eq!(ArrowError::BadArray { column: column.clone(), what: "length" }.to_string(), text);
-    let text = "column 'a.b' of format '+l', or its dictionary, is not supported";
+    let text = "column 'a.b' of format '+r' is not supported";
     assert_eq!(ArrowError::NotSupported { column, format }.to_string(), text);
     assert_eq!(AllocError.to_string(), "out of memory");
 }
