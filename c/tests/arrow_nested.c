@@ -186,9 +186,10 @@ static void add_children(struct ArrowSchema *schema, struct ArrowArray *made, in
     schema->children = calloc((size_t)count, sizeof *schema->children);
     made->children = calloc((size_t)count, sizeof *made->children);
     for (i = 0; i < count; i++) {
+        size_t format = random_format(depth), more = random_below(3);
         schema->children[i] = malloc(sizeof *schema);
         made->children[i] = malloc(sizeof *made);
-        make(schema->children[i], made->children[i], random_format(depth), len + random_below(3), depth + 1);
+        make(schema->children[i], made->children[i], format, len + more, depth + 1);
     }
 }
 

@@ -388,7 +388,7 @@ static void tries_lists(const char *format, size_t width) {
 static void tries_dictionaries(void) {
     static const char *const others[] = {"b", "f", "u", "tdD", "w:4", "vu"};
     struct ArrowSchema schema = schema_of("i"), values_schema = schema_of("l");
-    const void *buffers[3] = {NULL, zeros, zeros};
+    const void *buffers[3] = {NULL, zeros, zeros}, *absent[2] = {NULL, NULL};
     struct ArrowArray array = array_of(2, buffers), values = array_of(2, buffers);
     size_t i;
 
@@ -417,11 +417,15 @@ static void tries_dictionaries(void) {
     values_schema = schema_of("l");
     values.length = -1;
     tries(&schema, &array, false, EINVAL, "bad length or offset: column 'a' of format 'l'");
-    values.length = ROWS;
-    buffers[1] = NULL;
-    answers(&schema, &array, EINVAL, "a bad buffer");
+    /* (and no memory is asked for so many) */
+    values.length = INT64_C(1) << 58;
+    values.buffers = absent;
+    tries(&schema, &array, false, EINVAL, "a bad buffer: column 'a' of format 'l'");
+    values = array_of(2, buffers);
+    array.buffers = absent;
+    answers(&schema, &array, EINVAL, "a bad buffer: column 'a' of format 'i'");
     /* a dictionary that is its own */
-    buffers[1] = zeros;
+    array.buffers = buffers;
     schema.dictionary = &schema;
     array.dictionary = &array;
     tries(&schema, &array, false, ENOTSUP, "nested too deep");
