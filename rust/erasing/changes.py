@@ -39,7 +39,14 @@ for inside, kit in enumerate(["::row_mask::kit", "crate::kit"]):
         "std::simd::prelude::*": f"{kit}::lanes::*",
     }
 # What Rust has in `core`, by these names.
-CORE = {"std::fmt", "std::fmt::Debug", "std::fmt::Display", "std::mem", "std::mem::size_of_val"}
+CORE = {
+    "std::fmt",
+    "std::fmt::Debug",
+    "std::fmt::Display",
+    "std::marker::PhantomData",
+    "std::mem",
+    "std::mem::size_of_val",
+}
 SAME = {"std::process::ExitCode"}
 # What only the package's own calls do.
 QUICKEST = "the processor's deposits"

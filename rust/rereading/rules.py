@@ -66,6 +66,7 @@ IMPORTED = {
     "std::fmt": "::core::fmt",
     "std::fmt::Debug": "::core::fmt::Debug",
     "std::fmt::Display": "::core::fmt::Display",
+    "std::marker::PhantomData": "::core::marker::PhantomData",
     "std::mem": "::core::mem",
     "std::mem::size_of_val": "::core::mem::size_of_val",
     "std::process::ExitCode": "::std::process::ExitCode",

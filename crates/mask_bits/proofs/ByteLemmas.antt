@@ -1,5 +1,7 @@
 -- The places of a byte's set bits, by the table, and the bytes of a word.
-use Rattle.mask_bits.proofs.Common.{◌≡◌, ℕ, ◌+◌, ◌*◌, ◌/◌, ◌%◌, ◌^◌, ◌<◌, ◌≤◌, Bool, true, false, nat_eq, List, subst, ◌++◌, length, get_or, take, drop, map, refl, sym, ap, ◌∙◌, arith, count_ones, add-zero, mod-eq_of_lt, append-nil, append_assoc, agree_below, agree_below_at, indices_from, positions, count, count_below, AreLanes, word_bits, get_or-drop, get_or-map, get_or-take, take-append-drop, take-take, length-append, drop_all, and_mask, ones-le, bit_at, between, get_or-between, length-between, eqb-true, eqb, drop-drop, ext_get_or, length-drop, length-take, bit_and}
+use Rattle.mask_bits.proofs.Common.{◌≡◌, ℕ, ◌+◌, ◌*◌, ◌/◌, ◌%◌, ◌^◌, ◌<◌, ◌≤◌, Bool, true, false, nat_eq, List, subst, ◌++◌, length, get_or, take, drop, map, refl, sym, ap, ◌∙◌, arith, count_ones, add-zero, mod-eq_of_lt, append-nil, append_assoc, agree_below, agree_below_at, indices_from, positions, count, count_below, AreLanes, word_bits, get_or-drop, get_or-map, length-map, get_or-take, take-append-drop, take-take, length-append, drop_all, and_mask, ones-le, bit_at, between, get_or-between, length-between, eqb-true, eqb, drop-drop, ext_get_or, length-drop, length-take, bit_and}
+use Rattle.std.proofs.lemmas.List.{map-append, take-map}
+use Rattle.std.proofs.lemmas.Simd.{map-map}
 use Rattle.mask_bits.specs.declared.byte_places.TheConstants.{PLACES}
 use Rattle.mask_bits.proofs.Lists.CountLemmas.{count-append}
 use Rattle.mask_bits.proofs.Lists.LimitLemmas.{count_below_position}
@@ -76,26 +78,36 @@ place-is b k few inside =
 pub place-read : (b k : ℕ) → b < 256 → k < count_ones b → IsPlace b k (get_or PLACES (8 * b + k) 0)
 place-read b k few inside = subst (IsPlace b k) (sym (place-listed b k few inside)) (place-is b k few inside)
 
--- the indices of a byte's set bits, where its lanes are these places behind the base
-pub lanes-indices : (base b : ℕ) (places lanes : List ℕ) → b < 256 → base + 8 ≤ 2 ^ 64 → AreLanes 8 lanes (λ j. (base + get_or places j 0) % 2 ^ 64)
+-- eight places behind a base, where lanes add without a loss, or keep the lowest bits
+pub places-behind : (f : ℕ → ℕ) (places lanes : List ℕ) → length places ≡ 8 → AreLanes 8 lanes (λ j. f (get_or places j 0)) → lanes ≡ map f places
+places-behind f places lanes eight are =
+    ext_get_or 0 lanes (map f places) (are.lanes ∙ sym (length-map places f ∙ eight)) (λ k h.
+    let inside : k < length places = omega (arith, are.lanes, eight) in
+    are.each k (omega (arith, are.lanes)) ∙ sym (get_or-map f places k 0 0 inside))
+
+-- the first places are those of the set bits
+places-first : (b : ℕ) (places : List ℕ) → b < 256 → length places ≡ 8
     → ((k : ℕ) → k < count_ones b → get_or places k 0 ≡ get_or (positions (take 8 (word_bits b))) k 0)
-    → take (count_ones b) lanes ≡ indices_from base (take 8 (word_bits b))
-lanes-indices base b places lanes few fits are listed =
+    → take (count_ones b) places ≡ positions (take 8 (word_bits b))
+places-first b places few eight listed =
     let m : List Bool = take 8 (word_bits b) in
     let n : ℕ = count_ones b in
     let counted : count m ≡ n = count-byte b few in
-    let eight : length m ≡ 8 = omega (arith, length-take 8 (word_bits b), length-word_bits b) in
-    let most : n ≤ 8 = omega (arith, counted, count-le-length m, eight) in
+    let most : n ≤ 8 = omega (arith, counted, count-le-length m, length-take 8 (word_bits b), length-word_bits b) in
+    ext_get_or 0 (take n places) (positions m) (omega (arith, length-take n places, eight, most, counted)) (λ k h.
+    let inside : k < n = omega (arith, length-take n places) in
+    get_or-take n places k 0 inside ∙ listed k inside)
+
+-- so what is made of them behind the base is made of the indices
+pub indices-listed : {X : Type 0} (of : ℕ → X) (base b : ℕ) (places : List ℕ) → b < 256 → length places ≡ 8
+    → ((k : ℕ) → k < count_ones b → get_or places k 0 ≡ get_or (positions (take 8 (word_bits b))) k 0)
+    → take (count_ones b) (map (λ p. of (base + p)) places) ≡ map of (indices_from base (take 8 (word_bits b)))
+indices-listed {X} of base b places few eight listed =
+    let m : List Bool = take 8 (word_bits b) in
     let moved : indices_from base m ≡ map (λ p. base + p) (positions m) = ap (λ k. indices_from k m) (sym (add-zero base)) ∙ indices_from-moved base 0 m in
-    let long : length lanes ≡ 8 = are.lanes in
-    ext_get_or 0 (take n lanes) (indices_from base m) (omega (arith, length-take n lanes, long, most, length-indices base m, counted)) (λ k h.
-    let inside : k < n = omega (arith, length-take n lanes) in
-    let within : get_or (positions m) k 0 < 8 = omega (arith, eight, positions-within m k 0 (omega (arith, counted))) in
-    get_or-take n lanes k 0 inside
-    ∙ are.each k (omega arith)
-    ∙ ap (λ x. (base + x) % 2 ^ 64) (listed k inside)
-    ∙ mod-eq_of_lt (omega (arith, within, fits))
-    ∙ sym (ap (λ (ps : List ℕ). get_or ps k 0) moved ∙ get_or-map (λ p. base + p) (positions m) k 0 0 (omega (arith, counted))))
+    take-map (λ p. of (base + p)) (count_ones b) places
+    ∙ ap (map (λ p. of (base + p))) (places-first b places few eight listed)
+    ∙ sym (ap (map of) moved ∙ map-map of (λ p. base + p) (positions m))
 
 -- ---- the bytes of a word
 
@@ -140,4 +152,4 @@ indices-byte_more base w j few =
     ∙ indices_from-append (base + 8 * j) here rest
     ∙ ap (λ k. indices_from (base + 8 * j) here ++ indices_from k rest) next
 
-pub ruleset bytes_of_word = (byte_of, indices-byte_more, count-byte_more, length-indices, length-word_bits, append-nil, append_assoc, length-append, drop_all)
+pub ruleset bytes_of_word = (byte_of, indices-byte_more, count-byte_more, length-indices, length-map, length-word_bits, map-append, append-nil, append_assoc, length-append, drop_all)

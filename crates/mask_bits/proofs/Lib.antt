@@ -17,6 +17,7 @@ mod LawRules
 pub mod Lists
 mod NullableBufferLemmas
 mod NumberLemmas
+mod PutIndicesLemmas
 mod RunWalkLemmas
 mod RunWordLemmas
 mod SetBitLemmas

@@ -1,5 +1,5 @@
--- What is put into room that a caller lends: bytes by words, and indices as far as there is room.
-use Rattle.mask_bits.proofs.Common.{◌≡◌, ℕ, ◌+◌, ◌-◌, ◌<◌, ◌≤◌, ◌⊎◌, List, [], ◌++◌, length, get_or, take, drop, slice_range, ap, ◌∙◌, arith, append-nil, take_all, take_at, length-take, length-drop, get_or_past, get_or-between, le_bytes_8, take-put_mid, put_mid, from_le_bytes, to_le_bytes, w64}
+-- Bytes that are put into room that a caller lends, by words.
+use Rattle.mask_bits.proofs.Common.{◌≡◌, ℕ, ◌+◌, ◌-◌, ◌<◌, ◌≤◌, List, ◌++◌, length, get_or, take, drop, slice_range, ap, ◌∙◌, arith, take_all, length-take, length-drop, get_or_past, get_or-between, le_bytes_8, take-put_mid, put_mid, from_le_bytes, to_le_bytes, w64}
 
 -- ---- bytes
 
@@ -20,9 +20,3 @@ eight-bytes bytes out chunk new at begin n are within room is number wrote =
     let same : new ≡ part = wrote ∙ le_bytes_8 chunk n (ap length whole ∙ len) are_part number ∙ whole in
     take-put_mid at (at + 8 - at) out new (at + 8) (omega (arith, ap length same, len)) room
     ∙ ap (λ (xs : List ℕ). take at out ++ xs) same
-
--- ---- indices
-
--- what was written where nothing is left, or the room is full
-pub stopped : (n at : ℕ) (xs rest whole : List ℕ) → length xs ≡ at → at ≤ n → xs ++ rest ≡ whole → ((rest ≡ []) ⊎ (at ≡ n)) → xs ≡ take n whole
-stopped n at xs rest whole len room is either = grind (arith, append-nil, take_all, take_at)

@@ -1,8 +1,8 @@
-//! The places of a byte's set bits, and their indices, read from a table.
+//! The places of a byte's set bits, read from a table.
 
-ghost use Rattle.std.specs.Prelude.{◌≡◌, ◌+◌, ◌^◌, ◌<◌, ◌≤◌, ℕ, count_ones, length, slice_index, take};
+ghost use Rattle.std.specs.Prelude.{◌≡◌, ◌<◌, ℕ, count_ones, length, slice_index, take};
 ghost use Rattle.std.specs.Int.{bit_at};
-ghost use Rattle.mask_bits.specs.Positions.{count_below, indices_from, positions};
+ghost use Rattle.mask_bits.specs.Positions.{count_below, positions};
 ghost use Rattle.mask_bits.specs.Words.{word_bits};
 
 use std::simd::prelude::*;
@@ -17,16 +17,6 @@ pub fn place_in_byte(byte: usize, rank: usize) -> usize
     ensures number { count_below (word_bits byte) result ≡ rank }
 {
     PLACES[8 * byte + rank] as usize
-}
-
-/// The indices of a byte's set bits, ascending, where its lowest bit has the index `base`, and other
-/// numbers behind them.
-#[inline(always)]
-pub(crate) fn indices_of_byte(base: usize, byte: u8) -> [usize; 8]
-    requires { base + 8 ≤ 2 ^ 64 }
-    ensures { take (count_ones byte) result ≡ indices_from base (take 8 (word_bits byte)) }
-{
-    (usizex8::splat(base) + places_of(byte).cast::<usize>()).to_array()
 }
 
 // The places of a byte's set bits, ascending, and zeros behind them.

@@ -42,6 +42,8 @@ pub mod push_rows;
 mod read_word;
 #[doc(hidden)]
 pub mod room;
+#[doc(hidden)]
+pub mod row_index;
 mod run_words;
 mod scan;
 mod set_indices;
@@ -51,7 +53,8 @@ pub mod small_rows;
 // rust: replaced by kit::unchecked
 #[doc(hidden)]
 pub mod unchecked;
-mod word_indices;
+#[doc(hidden)]
+pub mod word_indices;
 mod word_items;
 // rust: visible
 mod word_rows;

@@ -34,7 +34,7 @@ impl BitBuffer {
     /// It takes less time than to collect `set_indices`.
     // rust: level if self.len() > 128
     // rust: named try_indices
-    #[tactic(auto, using(crate::proofs::Lists::Words::BlockLemmas::block_facts))]
+    #[tactic(auto, using(crate::proofs::Lists::Words::BlockLemmas::block_facts, crate::proofs::Lists::Words::BlockLemmas::indices_themselves))]
     pub fn indices(&self, alloc: Global, true_count: usize) -> Result<Vec<usize>, AllocError>
         requires { true_count ≡ count (values self.now) }
         ensures { IfOk result (λ indices. indices.items ≡ positions (values self.now)) }
@@ -43,7 +43,7 @@ impl BitBuffer {
         let mut indices = Vec::with_capacity(alloc, true_count)?;
         // the whole words apart, so that none is tested for being the last
         push_whole(&mut indices, &chunks, true_count);
-        push_indices::<0, _>(&mut indices, 64 * chunks.len(), chunks.remainder_bits());
+        push_indices::<0, usize, _>(&mut indices, 64 * chunks.len(), chunks.remainder_bits());
         Ok(indices)
     }
 }
@@ -70,7 +70,7 @@ fn push_whole(indices: &mut Vec<usize>, chunks: &BitChunks<'_>, true_count: usiz
 
 // Pushes those of the whole words from word `from` on, one after another.
 #[inline(always)]
-#[tactic(auto, using(crate::proofs::Lists::Words::BlockLemmas::block_facts, crate::proofs::Lists::Words::PaddedLemmas::padded_facts, crate::proofs::Lists::Places::SelectLemmas::places_of_words))]
+#[tactic(auto, using(crate::proofs::Lists::Words::BlockLemmas::block_facts, crate::proofs::Lists::Words::PaddedLemmas::padded_facts, crate::proofs::Lists::Places::SelectLemmas::places_of_words, crate::proofs::Lists::Words::BlockLemmas::indices_themselves))]
 fn push_in_turn(indices: &mut Vec<usize>, chunks: &BitChunks<'_>, from: usize)
     requires so_far { indices.old.items ≡ positions (take (64 * from) chunks.now) }
     requires within { from ≤ length chunks.now / 64 }
@@ -81,13 +81,13 @@ fn push_in_turn(indices: &mut Vec<usize>, chunks: &BitChunks<'_>, from: usize)
     ensures capacity { vec_capacity indices.new ≡ vec_capacity indices.old }
 {
     for i in from..chunks.len() {
-        push_indices::<0, _>(indices, 64 * i, chunks.word(i));
+        push_indices::<0, usize, _>(indices, 64 * i, chunks.word(i));
     }
 }
 
 // Pushes those of the first blocks of four words.
 #[inline(always)]
-#[tactic(auto, using(crate::proofs::Lists::Words::BlockLemmas::block_facts))]
+#[tactic(auto, using(crate::proofs::Lists::Words::BlockLemmas::block_facts, crate::proofs::Lists::Words::BlockLemmas::indices_themselves))]
 fn push_blocks(indices: &mut Vec<usize>, chunks: &BitChunks<'_>, blocks: usize)
     requires empty { indices.old.items ≡ [] }
     requires within { 256 * blocks ≤ length chunks.now }
@@ -100,7 +100,7 @@ fn push_blocks(indices: &mut Vec<usize>, chunks: &BitChunks<'_>, blocks: usize)
     while i < blocks {
         let words = block(chunks, i);
         if has_some(&words) {
-            push_block::<true, _>(indices, 256 * i, &words);
+            push_block::<true, usize, _>(indices, 256 * i, &words);
             i += 1;
         } else {
             i = next_block(chunks, i + 1, blocks);

@@ -3,10 +3,9 @@
 //! The Rust package has a module by hand in place of this one, which tests for no place that it is there. All that is
 //! trusted of it is that each function does what its contract here says.
 
-ghost use Rattle.std.specs.Prelude.{◌≡◌, ◌+◌, ◌-◌, ◌*◌, ◌^◌, ◌<◌, ◌≤◌, ◌⊎◌, ◌++◌, ℕ, All, Some, drop, length, map, min, slice_get, slice_range, slice_set, take};
+ghost use Rattle.std.specs.Prelude.{◌≡◌, ◌+◌, ◌-◌, ◌*◌, ◌<◌, ◌≤◌, ◌⊎◌, ◌++◌, ℕ, Some, drop, length, slice_get, slice_range, slice_set, take};
 ghost use Rattle.mask_bits.specs.Bitmap.{bitmap};
 ghost use Rattle.mask_bits.specs.Buffer.{backing_bit};
-ghost use Rattle.mask_bits.specs.Positions.{count, positions};
 ghost use Rattle.mask_bits.specs.Words.{window, word_bits};
 
 /// Word `i` of the whole words of `bytes`: bits `64 * i` to `64 * i + 63`, the first lowest.
@@ -105,27 +104,4 @@ pub fn put_lowest(word: u64, out: &mut [u8])
     let mut all = [0u8; 8];
     set_word(&mut all, 0, word);
     out.copy_from_slice(&all[..out.len()]);
-}
-
-/// Writes `first` and the indices of the set bits of a word from there on behind the first `at` indices, as many as there
-/// is room for, and answers how many there are then.
-#[inline]
-pub fn put_indices(word: u64, first: usize, out: &mut [usize], at: usize) -> usize
-    requires fits { All (λ p. first + p < 2 ^ 64) (positions (word_bits word)) }
-    requires room { at ≤ length out.old }
-    ensures indices { take result out.new ≡ take (length out.old)
-        (take at out.old ++ map (λ p. first + p) (positions (word_bits word))) }
-    ensures count { result ≡ min (length out.old) (at + count (word_bits word)) }
-{
-    let mut word = word;
-    let mut at = at;
-    while word != 0 {
-        if at == out.len() {
-            return at;
-        }
-        out[at] = first + word.trailing_zeros() as usize;
-        at += 1;
-        word &= word - 1;
-    }
-    at
 }

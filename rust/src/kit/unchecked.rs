@@ -47,8 +47,8 @@ pub fn rest<T>(items: &[T], first: usize) -> &[T] {
 #[inline(always)]
 pub fn put<T: Copy>(out: &mut [T], at: usize, item: T) {
     debug_assert!(at < out.len());
-    // SAFETY: the contract asks `at < length out.old`. (Of its callers, `put_indices` below is by hand, and `push_first`
-    // of `native::processor`, which calls it by way of a `Room`.)
+    // SAFETY: the contract asks `at < length out.old`. (Of its callers, `push_first` of `native::processor` is by hand, which
+    // calls it by way of a `Room`.)
     *unsafe { out.get_unchecked_mut(at) } = item;
 }
 
@@ -101,26 +101,8 @@ pub fn put_lowest(mut word: u64, out: &mut [u8]) {
     }
 }
 
-/// Writes `first` and the indices of the set bits of a word from there on behind the first `at` indices, as many as there
-/// is room for, and answers how many there are then.
-#[inline(always)]
-pub fn put_indices(mut word: u64, first: usize, out: &mut [usize], at: usize) -> usize {
-    debug_assert!(at <= out.len());
-    if word == 0 {
-        return at;
-    }
-    let end = at + (word.count_ones() as usize).min(out.len().wrapping_sub(at));
-    for at in at..end {
-        put(out, at, first + word.trailing_zeros() as usize);
-        word &= word - 1;
-    }
-    end
-}
-
 #[cfg(test)]
 mod tests {
-    use alloc::vec::Vec;
-
     /// As by a copy.
     #[test]
     fn few_bytes_are_written() {
@@ -129,20 +111,6 @@ mod tests {
             let mut out = [7; 9];
             super::put_lowest(u64::from_le_bytes(bytes), &mut out[..count]);
             assert_eq!((&out[..count], &out[count..]), (&bytes[..count], &[7; 9][count..]));
-        }
-    }
-
-    /// As many as there is room for, and no place behind them.
-    #[test]
-    fn indices_end_where_the_room_does() {
-        for word in [0, 1, 0b1011, u64::MAX, 1 << 63] {
-            for room in 0..70 {
-                let mut out = [7; 70];
-                let end = super::put_indices(word, 100, &mut out[..room], room.min(2));
-                let bits = (0..64).filter(|bit| word >> bit & 1 == 1).map(|bit| 100 + bit);
-                let wanted: Vec<usize> = (0..2).map(|_| 7).chain(bits).take(room).collect();
-                assert_eq!((&out[..end], &out[end..]), (&wanted[..], &[7; 70][end..]));
-            }
         }
     }
 }

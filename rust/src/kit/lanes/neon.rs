@@ -94,6 +94,7 @@ instructions! {
     u16x16: Add add vaddq_u16, Sub sub vsubq_u16, Mul mul vmulq_u16;
     u32x4: Add add vaddq_u32, Sub sub vsubq_u32, Mul mul vmulq_u32;
     u64x2: Add add vaddq_u64, Sub sub vsubq_u64;
+    u32x8: Add add vaddq_u32;
     usizex8: Add add vaddq_u64;
 }
 

@@ -213,7 +213,10 @@ mod wide {
         usizex8: [usize; 8] in 2 _mm256_set1_epi64x;
     }
 
-    instructions!(usizex8: Add add _mm256_add_epi64;);
+    instructions! {
+        u32x8: Add add _mm256_add_epi32;
+        usizex8: Add add _mm256_add_epi64;
+    }
 
     casts! {
         u8x8 as u32: u32x8, |bytes| {

@@ -141,7 +141,7 @@ operators! {
     u16x8 [u16; 8]: add sub mul and or xor not xor_assign shl shr;
     u16x16 [u16; 16]: add sub mul and or xor not xor_assign shl shr;
     u32x4 [u32; 4]: add sub mul and or xor not xor_assign shl shr;
-    u32x8 [u32; 8]: and or xor not xor_assign;
+    u32x8 [u32; 8]: add and or xor not xor_assign;
     u64x2 [u64; 2]: add sub and or xor not xor_assign shl shr;
     usizex8 [usize; 8]: add and or xor not xor_assign;
 }
@@ -151,7 +151,7 @@ operators! {
     u8x8 [u8; 8]: add sub mul and or shl shr;
     u8x16 [u8; 16]: mul;
     u8x64 [u8; 64]: add sub mul shl shr;
-    u32x8 [u32; 8]: add sub mul shl shr;
+    u32x8 [u32; 8]: sub mul shl shr;
     u64x2 [u64; 2]: mul;
     usizex8 [usize; 8]: sub mul shl shr;
 }

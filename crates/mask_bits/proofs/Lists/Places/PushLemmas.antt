@@ -1,5 +1,5 @@
 -- What a word's bits yield, put into room without a test of whether one is left.
-use Rattle.mask_bits.proofs.Common.{◌≡◌, ℕ, Bool, ◌+◌, ◌-◌, ◌%◌, ◌^◌, ◌<◌, ◌≤◌, List, [], ◌∷◌, ◌++◌, Option, Some, None, suc, length, take, slice_get, true, nat_eq, false, refl, sym, ap, nat_lt, if◌then◌else◌, count_ones, ◌∙◌, inl, inr, arith, append-nil, append_assoc, add-zero, cons_option, filter_map, IsSome, cases_lt, nat_tests, take-append-le, All-head, All-tail, All-weaker, chosen, indices_from, positions, count, repeated, ArePushed, items_of, word_bits, get_or_from_slice_get, slice_get_cases, bit_and, All, length-take, length-take-le}
+use Rattle.mask_bits.proofs.Common.{◌≡◌, ℕ, Bool, ◌+◌, ◌-◌, ◌%◌, ◌^◌, ◌<◌, ◌≤◌, List, [], ◌∷◌, ◌++◌, Option, Some, None, suc, length, take, map, slice_get, true, nat_eq, false, refl, sym, ap, nat_lt, if◌then◌else◌, count_ones, ◌∙◌, inl, inr, arith, append-nil, append_assoc, add-zero, cons_option, filter_map, IsSome, cases_lt, nat_tests, take-append-le, All-head, All-tail, All-weaker, chosen, indices_from, positions, count, repeated, ArePushed, items_of, word_bits, get_or_from_slice_get, slice_get_cases, bit_and, All, length-take, length-take-le}
 use lib.Seq.{take-append_seam}
 use Rattle.mask_bits.proofs.Lists.ChooseLemmas.{chosen-all_true, chosen-of_front, chosen_at_positions}
 use Rattle.mask_bits.proofs.Lists.CountLemmas.{count-repeated_true, length-repeated, slice_get-repeated}
@@ -83,21 +83,21 @@ pub length-indices_of_word : (base w : ℕ) → w < 2 ^ 64 → length (indices_f
 length-indices_of_word base w fits = length-indices base (word_bits w) ∙ count-word_bits w fits
 
 -- the index of a place
-abbrev index_at : ℕ → ℕ → Option ℕ
-index_at base p = if nat_lt (base + p) (2 ^ 64) then Some (base + p) else None
+abbrev index_at : {X : Type 0} → (ℕ → X) → ℕ → ℕ → Option X
+index_at of base p = if nat_lt (base + p) (2 ^ 64) then Some (of (base + p)) else None
 
-index-some : (base p : ℕ) → base + p < 2 ^ 64 → IsSome (index_at base p)
-index-some base p fits = grind (arith, nat_tests)
+index-some : {X : Type 0} (of : ℕ → X) (base p : ℕ) → base + p < 2 ^ 64 → IsSome (index_at of base p)
+index-some of base p fits = grind (arith, nat_tests)
 
-pub indices-some : (base w : ℕ) → base + 63 < 2 ^ 64 → All (λ p. IsSome (index_at base p)) (positions (word_bits w))
-indices-some base w fits = All-weaker (λ p. p < 64) (λ p. IsSome (index_at base p)) (λ p h. index-some base p (omega arith)) (positions (word_bits w)) (places-within w 64 (omega arith))
+pub indices-some : {X : Type 0} (of : ℕ → X) (base w : ℕ) → base + 63 < 2 ^ 64 → All (λ p. IsSome (index_at of base p)) (positions (word_bits w))
+indices-some of base w fits = All-weaker (λ p. p < 64) (λ p. IsSome (index_at of base p)) (λ p h. index-some of base p (omega arith)) (positions (word_bits w)) (places-within w 64 (omega arith))
 
-indices_of : (base n : ℕ) (m : List Bool) → base + n + length m ≤ 2 ^ 64 → filter_map (index_at base) (indices_from n m) ≡ indices_from (base + n) m
-indices_of base n [] fits = refl
-indices_of base n (v ∷ m) fits = grind (arith, nat_tests, indices_of base (n + 1) m)
+indices_of : {X : Type 0} (of : ℕ → X) (base n : ℕ) (m : List Bool) → base + n + length m ≤ 2 ^ 64 → filter_map (index_at of base) (indices_from n m) ≡ map of (indices_from (base + n) m)
+indices_of of base n [] fits = refl
+indices_of of base n (v ∷ m) fits = grind (arith, nat_tests, indices_of of base (n + 1) m)
 
-pub items_of-indices : (base w : ℕ) → base + 63 < 2 ^ 64 → items_of (index_at base) (word_bits w) ≡ indices_from base (word_bits w)
-items_of-indices base w fits = indices_of base 0 (word_bits w) (omega (arith, length-word_bits w)) ∙ ap (λ n. indices_from n (word_bits w)) (add-zero base)
+pub items_of-indices : {X : Type 0} (of : ℕ → X) (base w : ℕ) → base + 63 < 2 ^ 64 → items_of (index_at of base) (word_bits w) ≡ map of (indices_from base (word_bits w))
+items_of-indices of base w fits = indices_of of base 0 (word_bits w) (omega (arith, length-word_bits w)) ∙ ap (λ n. map of (indices_from n (word_bits w))) (add-zero base)
 
 -- ---- rows
 

@@ -1,5 +1,5 @@
 -- The indices of a list's true values, block by block of four words.
-use Rattle.mask_bits.proofs.Common.{◌≡◌, ℕ, ◌+◌, ◌-◌, ◌*◌, ◌/◌, ◌<◌, ◌≤◌, Bool, false, not, nat_eq, List, [], ◌∷◌, ◌++◌, length, get_or, take, drop, slice_range, refl, sym, ap, ◌∙◌, arith, append_assoc, append-nil, bit_or, take-add, drop_all, drop_more, length-append, nil_from_length, take-append-drop, take_at, drop_split, indices_from, positions, count, bits_of_words, word_bits, word_part, padded_part, padded_remainder, length-take, take_all}
+use Rattle.mask_bits.proofs.Common.{◌≡◌, ℕ, ◌+◌, ◌-◌, ◌*◌, ◌/◌, ◌<◌, ◌≤◌, Bool, false, not, nat_eq, List, [], ◌∷◌, ◌++◌, length, get_or, take, drop, slice_range, refl, sym, ap, ◌∙◌, arith, append_assoc, append-nil, bit_or, take-add, drop_all, drop_more, length-append, map, map-id, nil_from_length, take-append-drop, take_at, drop_split, indices_from, positions, count, bits_of_words, word_bits, word_part, padded_part, padded_remainder, length-take, take_all}
 use Rattle.mask_bits.proofs.CompareLemmas.{none-or}
 use Rattle.mask_bits.proofs.Lists.CountLemmas.{count-append}
 use Rattle.mask_bits.proofs.Lists.Places.SelectLemmas.{count-part_further, indices_from-append, indices-of_none, places-word_more}
@@ -7,6 +7,10 @@ use Rattle.mask_bits.proofs.Lists.Words.PaddedLemmas.{padded_part-remainder}
 use Rattle.mask_bits.proofs.Lists.Words.WordLemmas.{length-word_bits, count-word_bits}
 use Rattle.mask_bits.proofs.Lists.Places.PushLemmas.{length-indices}
 use Rattle.mask_bits.proofs.Lists.Places.PlaceLemmas.{count-le-length}
+
+-- a list of 8-byte indices
+pub indices_themselves : (xs : List ℕ) → map (λ n. n) xs ≡ xs
+indices_themselves xs = map-id xs
 
 -- ---- the words of a block
 
