@@ -15,9 +15,9 @@ ghost use Rattle.vortex_mask.specs.Ranks.{IsAscending};
 use crate::conditions::ascends;
 use crate::mask::common_indices::common;
 use crate::mask::{Mask, MaskError};
-use mask_bits::BitBuffer;
 use mask_bits::byte_list::ByteList;
 use mask_bits::write_bits::{ones, unset_value};
+use mask_bits::{BitBuffer, BitBufferMut};
 use std::alloc::Global;
 
 /// Masks of true indices.
@@ -113,6 +113,67 @@ fn out_of_bounds(len: usize, indices: &[usize]) -> Option<MaskError>
 {
     let index = *indices.iter().find(|index| **index >= len)?;
     Some(MaskError::IndexOutOfBounds { index, len })
+}
+
+/// Masks of true indices in any order.
+impl Mask {
+    /// The mask of `len` values that is true exactly at the indices that an iterator yields, in any
+    /// order and with repeats: what [`Mask::from_indices`] refuses by its order. It caches no list. No
+    /// values give `AllFalse(0)`.
+    ///
+    /// The values are made first, so `Memory` may come before the other refusal:
+    /// `IndexOutOfBounds` for the first index, as the iterator has them, that is not below `len`.
+    // rust: named try_from_unsorted_indices
+    pub fn from_unsorted_indices<I: Iterator<Item = usize>>(
+        alloc: Global,
+        len: usize,
+        indices: I,
+    ) -> Result<Mask, MaskError>
+        requires can { I.can_next indices }
+        requires ends { IsFinite (I.remaining indices) }
+        ensures len { IfOk result (λ m. length (truth m) ≡ len) }
+        ensures list { IfOk result (λ m. (xs : List ℕ) × Drains I.next_gives indices xs
+            × (out_of_bounds len xs ≡ None) × (truth m ≡ true_at len xs)) }
+        ensures whole { IfOk result (λ m. WholeRun I.next_gives indices
+            (λ p. (out_of_bounds len p.items ≡ None) × (truth m ≡ true_at len p.items))) }
+        ensures variant { IfOk result (λ m. variant m ≡ fitting_variant all_false (truth m)) }
+        ensures caches { IfOk result (λ m. caches m ≡ no_caches) }
+
+        // A refusal is the fault of what the iterator yielded, or that memory is out.
+        ensures refused { IfErr result (λ e. (e ≡ MaskError.Memory alloc_error)
+            ⊎ ((xs : List ℕ) × Drains I.next_gives indices xs × (out_of_bounds len xs ≡ Some e))) }
+        ensures refused_whole { IfErr result (λ e. (e ≡ MaskError.Memory alloc_error)
+            ⊎ WholeRun I.next_gives indices (λ p. out_of_bounds len p.items ≡ Some e)) }
+    {
+        let mut values = BitBufferMut::new_unset(alloc, len)?;
+        if let Some(index) = include(&mut values, len, indices) {
+            return Err(MaskError::IndexOutOfBounds { index, len });
+        }
+        Mask::from_buffer(alloc, values.freeze()?)
+    }
+}
+
+// Makes those of `len` values true that are at these indices, and tells the first index that is past their end.
+fn include<I: Iterator<Item = usize>>(
+    values: &mut BitBufferMut,
+    len: usize,
+    indices: I,
+) -> Option<usize>
+    requires can { I.can_next indices }
+    requires ends { IsFinite (I.remaining indices) }
+    requires none { values.old ≡ repeated len false }
+    ensures { (xs : List ℕ) × Drains I.next_gives indices xs
+        × (values.new ≡ true_at len xs) × (result ≡ first_past len xs) }
+{
+    let mut past_end = None;
+    for index in indices {
+        if index < len {
+            values.set(index);
+        } else {
+            past_end = past_end.or(Some(index));
+        }
+    }
+    past_end
 }
 
 /// Masks of false indices.
