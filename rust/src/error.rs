@@ -39,12 +39,17 @@ pub enum Error {
     UnsortedIndices { at: usize },
     /// An `index` is past the end of `len` values.
     IndexOutOfBounds { index: usize, len: usize },
+    /// There are more than 2³² values, which are so many: `len`. Indices of 4 bytes don't number them.
+    IndicesTooNarrow { len: usize },
     /// There is not one offset more than there are rows: there are so many `offsets`, and `len` rows.
     OffsetsDiffer { offsets: usize, len: usize },
     /// The offset at place `at` of the list is negative, or below the one before it.
     UnsortedOffsets { at: usize },
     /// The last `offset` is past the end of the bytes, of which there are `size`.
     OffsetOutOfBounds { offset: usize, size: usize },
+    /// The strings at a list of indices have more bytes than an offset of theirs counts: so many would be the last `offset`,
+    /// or more where it is `usize::MAX`.
+    OffsetTooGreat { offset: usize },
     /// There is no memory for what is to be made, which takes so many `bytes`. These are 0 where how many isn't known, as
     /// of masks.
     OutOfMemory { bytes: usize },
@@ -92,6 +97,9 @@ impl fmt::Display for Error {
             Error::IndexOutOfBounds { index, len } => {
                 write!(f, "index {index} is past the end of {len} values")
             }
+            Error::IndicesTooNarrow { len } => {
+                write!(f, "there are {len} values, and indices of 4 bytes number 4294967296")
+            }
             Error::OffsetsDiffer { offsets, len } => {
                 write!(f, "there are {offsets} offsets, and {len} rows")
             }
@@ -100,6 +108,9 @@ impl fmt::Display for Error {
             }
             Error::OffsetOutOfBounds { offset, size } => {
                 write!(f, "offset {offset} is past the end of {size} bytes")
+            }
+            Error::OffsetTooGreat { offset } => {
+                write!(f, "offset {offset} is more than its type counts")
             }
             Error::OutOfMemory { bytes: 0 } => f.write_str("out of memory"),
             Error::OutOfMemory { bytes } => {

@@ -21,9 +21,11 @@ mod native;
 mod nullable;
 mod proved;
 mod row;
+mod row_index;
 mod selection;
 mod stand_ins;
 mod strings;
+mod take;
 mod walks;
 mod words;
 
@@ -42,8 +44,10 @@ pub use proved::vortex_mask::{
     MaskValues, MaskValuesRef, index_fault, range_fault,
 };
 pub use row::Row;
+pub use row_index::RowIndex;
 pub use selection::Selection;
 pub use strings::{Offset, Strings};
+pub use take::{take, take_append, take_into};
 pub use walks::{Indices, Runs, Values};
 
 /// How to read the contracts in this documentation, and what their words mean.

@@ -1,13 +1,11 @@
 //! The true values of a bitmap, read once for many columns.
 
-use crate::bitmap::read::INDICES_OF_A_BLOCK;
-use crate::bitmap::room::{
-    append_to, as_cells, as_items, as_places, first_of, list_of, made, reserve,
-};
+use crate::bitmap::room::{append_to, as_cells, as_places, first_of, list_of, made, reserve};
 use crate::proved::mask_bits::SetSlices;
 use crate::proved::mask_bits::room::Lent;
 use crate::proved::mask_bits::word_rows::push_rows_one_by_one;
 use crate::proved::mask_c;
+use crate::row_index::InBlocks;
 use crate::{Bitmap, BitmapBuf, Error, Room, Row};
 use alloc::vec::Vec;
 use core::fmt;
@@ -38,7 +36,7 @@ pub struct Selection {
     kept: Kept,
 }
 
-// What is kept beside the bitmap. (No proved loop takes indices of 4 bytes, which are read in less time, or runs.)
+// What is kept beside the bitmap. (No proved loop takes runs.)
 #[derive(Clone)]
 enum Kept {
     // of at most 64 values, where few are true
@@ -68,11 +66,7 @@ impl Kept {
         if len <= 64 && count < OF_A_RUN {
             return Ok(Kept::Word(bitmap.chunks().iter_padded().next().unwrap_or(0)));
         }
-        let mut list = Vec::new();
-        reserve(&mut list, count)?;
-        #[expect(clippy::cast_possible_truncation, reason = "the length is of 32 bits")]
-        bitmap.by_blocks(|block| list.extend(block.iter().map(|i| *i as u32)));
-        Ok(Kept::Indices(list))
+        Ok(Kept::Indices(bitmap.to_indices_u32()?))
     }
 }
 
@@ -218,28 +212,16 @@ impl Selection {
         match &self.kept {
             Kept::Word(word) => push_rows_one_by_one(&mut Lent { out, at: 0 }, cells, *word),
             Kept::Runs(runs) => copy_runs(cells, runs.iter().map(|run| run.0..run.1), out),
-            Kept::Indices(indices) => {
-                for (place, i) in out.iter_mut().zip(indices) {
-                    // SAFETY: it is the index of a true value, and there is a row for each value.
-                    *place = *unsafe { cells.get_unchecked(*i as usize) };
-                }
-            }
+            // (each is the index of a true value, and there is a row for each value)
+            Kept::Indices(indices) => mask_c::rows_at(indices, cells, out),
         }
     }
 
     // Calls a function with the indices, block after block of them, as the proved loops take them.
     #[inline]
-    fn by_blocks(&self, mut of: impl FnMut(&[usize])) {
-        let mut block = [MaybeUninit::uninit(); INDICES_OF_A_BLOCK];
-        // SAFETY: none is read that wasn't written.
-        let block = unsafe { as_items(&mut block) };
+    fn by_blocks(&self, of: impl FnMut(&[usize])) {
         match &self.kept {
-            Kept::Indices(indices) => {
-                for short in indices.chunks(block.len()) {
-                    block.iter_mut().zip(short).for_each(|(long, short)| *long = *short as usize);
-                    of(&block[..short.len()]);
-                }
-            }
+            Kept::Indices(indices) => u32::in_blocks(indices, of),
             Kept::Word(_) | Kept::Runs(_) => self.as_bitmap().by_blocks(of),
         }
     }

@@ -110,6 +110,22 @@ impl<'a> Bitmap<'a> {
         granted(indices, count.saturating_mul(64))
     }
 
+    /// As [`to_indices`](Bitmap::to_indices), of 4 bytes each: half the memory.
+    ///
+    /// ```
+    /// let rows = row_mask::Bitmap::new(&[0b0_1101], 0, 5)?;
+    /// assert_eq!(rows.to_indices_u32()?, [0_u32, 2, 3]);
+    /// # Ok::<(), row_mask::Error>(())
+    /// ```
+    ///
+    /// # Errors
+    /// [`Error::IndicesTooNarrow`] where there are more than 2³² values, and [`Error::OutOfMemory`].
+    pub fn to_indices_u32(self) -> Result<Vec<u32>, Error> {
+        self.has_narrow_indices()?;
+        // SAFETY: each place is written, since so many values are true.
+        unsafe { list_of(self.count(), |out| _ = self.narrow_indices(0, as_items(out))) }
+    }
+
     /// All words of 64 values, as [`next_words`](Bitmap::next_words) has them.
     #[must_use]
     #[inline]
@@ -187,6 +203,25 @@ impl<'a> Bitmap<'a> {
     /// and answers how many these are. Behind them `out` may have other numbers than before.
     pub fn next_indices(self, from: usize, out: &mut [usize]) -> usize {
         mask_c::row_mask_next_indices(self.bytes(), self.offset(), self.len(), from, out)
+    }
+
+    /// As [`next_indices`](Bitmap::next_indices), of 4 bytes each.
+    ///
+    /// # Errors
+    /// [`Error::IndicesTooNarrow`] where there are more than 2³² values.
+    pub fn next_indices_u32(self, from: usize, out: &mut [u32]) -> Result<usize, Error> {
+        self.has_narrow_indices()?;
+        Ok(self.narrow_indices(from, out))
+    }
+
+    // Tests that indices of 4 bytes number the values.
+    fn has_narrow_indices(self) -> Result<(), Error> {
+        Error::IndicesTooNarrow { len: self.len }.unless(self.len <= 1 << u32::BITS)
+    }
+
+    // Writes them, of as many values.
+    fn narrow_indices(self, from: usize, out: &mut [u32]) -> usize {
+        mask_c::row_mask_next_indices_4(self.bytes(), self.offset(), self.len(), from, out)
     }
 
     // Calls a function with the indices of the true values, block after block of them, in the nearest memory.

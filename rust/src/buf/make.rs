@@ -6,6 +6,7 @@ use crate::bitmap::room::{append_to, as_items, made};
 use crate::kit::zeros;
 use crate::memory::granted;
 use crate::proved::mask_c;
+use crate::row_index::are_within;
 use crate::{Bitmap, BitmapBuf, Error, Room};
 use alloc::vec::Vec;
 use core::ops::Range;
@@ -158,8 +159,7 @@ impl BitmapBuf {
     }
 
     /// `len` values, of which just those at `indices` are true. These may come in any order and more than once. What an
-    /// iterator gives, or a list of another type such as `u32`, is collected to a `Vec<usize>` first, or each is
-    /// [`set`](Self::set).
+    /// iterator gives is collected to a `Vec<usize>` first, or each is [`set`](Self::set).
     ///
     /// # Errors
     /// [`Error::IndexOutOfBounds`] with the first that is not below the length, and [`Error::OutOfMemory`].
@@ -176,11 +176,37 @@ impl BitmapBuf {
         indices: &[usize],
         out: &mut (impl Room + ?Sized),
     ) -> Result<(), Error> {
-        if let Some(&index) = indices.iter().find(|index| **index >= len) {
-            return Err(Error::IndexOutOfBounds { index, len });
-        }
+        are_within(indices, len)?;
         // SAFETY: the loop writes each byte, and reads none before.
         unsafe { out.write(len, |out| mask_c::row_mask_from_indices(indices, len, out)) }
+    }
+
+    /// As [`from_indices`](Self::from_indices), of indices of 4 bytes.
+    ///
+    /// ```
+    /// let rows = row_mask::BitmapBuf::from_indices_u32(5, &[3, 0, 3])?;
+    /// assert_eq!(rows.to_string(), "10010");
+    /// # Ok::<(), row_mask::Error>(())
+    /// ```
+    ///
+    /// # Errors
+    /// As there.
+    pub fn from_indices_u32(len: usize, indices: &[u32]) -> Result<BitmapBuf, Error> {
+        made(|out| BitmapBuf::from_indices_u32_into(len, indices, out))
+    }
+
+    /// As [`from_indices_into`](Self::from_indices_into), of indices of 4 bytes.
+    ///
+    /// # Errors
+    /// As there.
+    pub fn from_indices_u32_into(
+        len: usize,
+        indices: &[u32],
+        out: &mut (impl Room + ?Sized),
+    ) -> Result<(), Error> {
+        are_within(indices, len)?;
+        // SAFETY: the loop writes each byte, and reads none before.
+        unsafe { out.write(len, |out| mask_c::row_mask_from_indices_4(indices, len, out)) }
     }
 
     /// `len` values, of which just those within the ranges are true. These may come in any order, and overlap. Each is

@@ -105,6 +105,15 @@ impl BitmapBuf {
         self.as_bitmap().to_indices()
     }
 
+    /// The same of 4 bytes each: [`Bitmap::to_indices_u32`].
+    ///
+    /// # Errors
+    /// [`Error::IndicesTooNarrow`], and [`Error::OutOfMemory`].
+    #[inline]
+    pub fn to_indices_u32(&self) -> Result<Vec<u32>, Error> {
+        self.as_bitmap().to_indices_u32()
+    }
+
     /// A list of the words of 64 values: [`Bitmap::to_words`].
     #[must_use]
     #[inline]
@@ -116,6 +125,15 @@ impl BitmapBuf {
     #[inline]
     pub fn next_indices(&self, from: usize, out: &mut [usize]) -> usize {
         self.as_bitmap().next_indices(from, out)
+    }
+
+    /// The same of 4 bytes each: [`Bitmap::next_indices_u32`].
+    ///
+    /// # Errors
+    /// [`Error::IndicesTooNarrow`].
+    #[inline]
+    pub fn next_indices_u32(&self, from: usize, out: &mut [u32]) -> Result<usize, Error> {
+        self.as_bitmap().next_indices_u32(from, out)
     }
 
     /// Writes words of 64 values to a slice: [`Bitmap::next_words`].

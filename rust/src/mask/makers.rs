@@ -76,6 +76,24 @@ impl Mask {
         accepted("from_indices", Mask::try_from_indices(len, indices), len)
     }
 
+    /// A mask of `len` values, of which those at these indices are true. They may come in any order, and again. It caches no
+    /// list.
+    ///
+    /// ```
+    /// use row_mask::Mask;
+    ///
+    /// assert_eq!(Mask::from_unsorted_indices(5, [3, 1, 3]).to_string(), "01010");
+    /// ```
+    ///
+    /// # Panics
+    /// Where an index is past the end.
+    #[inline]
+    #[must_use]
+    #[track_caller]
+    pub fn from_unsorted_indices(len: usize, indices: impl IntoIterator<Item = usize>) -> Mask {
+        accepted("from_unsorted_indices", Mask::try_from_unsorted_indices(len, indices), len)
+    }
+
     /// A mask of `len` values, of which those at these indices are false. They may come in any order, and again.
     ///
     /// ```

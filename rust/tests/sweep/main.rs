@@ -10,6 +10,7 @@ mod ranges;
 mod reads;
 mod refusals;
 mod selects;
+mod takes;
 mod walks;
 
 use lists::{Comparisons, Generator};
@@ -26,6 +27,7 @@ fn one(seen: &mut Comparisons, random: &mut Generator, list: &[bool], offset: us
     makes::narrows(seen, random, list, bitmap);
     selects::selects(seen, random, list, bitmap);
     makes::chooses(seen, random, list, bitmap);
+    takes::takes(seen, random, list, bitmap);
 }
 
 #[test]

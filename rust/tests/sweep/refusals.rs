@@ -1,7 +1,7 @@
 //! What a call asks is tested, and how bitmaps and refusals are printed.
 
 use row_mask::arrow::ArrowError;
-use row_mask::{AllocError, Bitmap, BitmapBuf, Error, Selection, Strings};
+use row_mask::{AllocError, Bitmap, BitmapBuf, Error, Selection, Strings, take};
 
 #[test]
 fn what_a_call_asks_is_tested() {
@@ -37,6 +37,34 @@ fn what_a_call_asks_is_tested() {
     assert_eq!(eight.counts_below(&[8, 9]), Err(Error::IndexOutOfBounds { index: 9, len: 8 }));
     assert_eq!(eight.choose(&[1, 2]), Err(Error::RowsDiffer { rows: 2, len: 8 }));
     assert_eq!(eight.choose_bits(seven), Err(Error::RowsDiffer { rows: 7, len: 8 }));
+}
+
+/// Lists of indices of 4 bytes, and what is taken at lists of indices.
+#[test]
+fn indices_that_name_nothing_are_refused() {
+    let eight = Bitmap::new(&[0b1011_1001], 0, 8).unwrap();
+    let outside = |index| Error::IndexOutOfBounds { index, len: 8 };
+    assert_eq!(eight.take(&[7_u32, 9, 8]), Err(outside(9)));
+    assert_eq!(eight.take(&[usize::MAX]), Err(outside(usize::MAX)));
+    assert_eq!(BitmapBuf::from_indices_u32(8, &[u32::MAX]), Err(outside(0xFFFF_FFFF)));
+    assert_eq!(take(&[0_u32], &[0_u8; 0]), Err(Error::IndexOutOfBounds { index: 0, len: 0 }));
+    let bytes = vec![7; 200];
+    let strings = Strings::new(&[0_i32, 0, 200], &bytes).unwrap();
+    assert_eq!(strings.take(&[2_u32]), Err(Error::IndexOutOfBounds { index: 2, len: 2 }));
+    let (many, mut out) = (vec![1_u32; 11_000_000], [0; 0]);
+    let great = Error::OffsetTooGreat { offset: 2_200_000_000 };
+    assert_eq!(strings.take_bytes(&many, &mut out), Err(great));
+    assert_eq!(great.to_string(), "offset 2200000000 is more than its type counts");
+    let zeros = vec![0; (1 << 29) + 1];
+    let long = Bitmap::new(&zeros, 0, (1 << 32) + 1).unwrap();
+    let narrow = Error::IndicesTooNarrow { len: (1 << 32) + 1 };
+    assert_eq!(long.to_indices_u32(), Err(narrow));
+    assert_eq!(long.next_indices_u32(0, &mut [7]), Err(narrow));
+    assert_eq!(long.slice(1 << 20..).unwrap().next_indices_u32(usize::MAX, &mut [7]), Ok(0));
+    assert_eq!(
+        narrow.to_string(),
+        "there are 4294967297 values, and indices of 4 bytes number 4294967296"
+    );
 }
 
 /// An iterator of true values that is wrong about its length.
