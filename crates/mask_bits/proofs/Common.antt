@@ -15,7 +15,7 @@ unfoldable pub use Rattle.mask_bits.specs.Positions.{chosen, repeated, true_at}
 pub use Rattle.mask_bits.specs.Positions.{IsFirstFrom, at_indices, count, count_below, indices_from, positions, rank_intersection}
 unfoldable pub use Rattle.mask_bits.specs.Pushed.{runs_between}
 pub use Rattle.mask_bits.specs.Pushed.{AreEdges, ArePushed, begins, runs_behind, starts_of}
-pub use Rattle.mask_bits.specs.Rows.{AreAnswers, AreAsComputed}
+pub use Rattle.mask_bits.specs.Rows.{AreAnswers, AreAsComputed, AreLeft, AreLeftAsComputed, leaves}
 pub use Rattle.mask_bits.specs.RunScan.{runs, runs_from, with_index}
 pub use Rattle.mask_bits.specs.Runs.{AreRanges, AreRuns, is_inside}
 pub use Rattle.mask_bits.specs.Stacks.{IsStack, folded_left, folded_right}

@@ -14,6 +14,7 @@ mod FirstLemmas
 mod KleeneLemmas
 mod LawRows
 mod LawRules
+mod LeftLemmas
 pub mod Lists
 mod NullableBufferLemmas
 mod NumberLemmas

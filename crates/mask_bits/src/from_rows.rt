@@ -57,9 +57,8 @@ fn put_answers<T, F: Fn(&T) -> bool>(bytes: &mut [u8], rows: &[T], test: &F)
 }
 
 // The word of what a test answers of 64 rows, the first lowest.
-// rust: visible
 #[inline(always)]
-fn word_of_whole<T, F: Fn(&T) -> bool>(rows: &[T], test: &F) -> u64
+pub(crate) fn word_of_whole<T, F: Fn(&T) -> bool>(rows: &[T], test: &F) -> u64
     requires whole { length rows.now ≡ 64 }
     requires callable { F.IsAlwaysCallable test.now }
     ensures { AreAnswers (FnReturnsAt F.Fn test.now) rows.now
@@ -92,9 +91,8 @@ fn bits_of_sixteen<T, F: Fn(&T) -> bool>(rows: &[T], test: &F) -> u64
 //
 // An answer is a lane of its own, so that several rows are tested at once where the test allows it, and all lanes
 // become bits together. Always inlined, as the packing of a list's values.
-// rust: visible
 #[inline(always)]
-fn word_of_rows<T, F: Fn(&T) -> bool>(rows: &[T], test: &F) -> u64
+pub(crate) fn word_of_rows<T, F: Fn(&T) -> bool>(rows: &[T], test: &F) -> u64
     requires few { length rows.now ≤ 64 }
     requires callable { F.IsAlwaysCallable test.now }
     ensures { AreAnswers (FnReturnsAt F.Fn test.now) rows.now

@@ -5,6 +5,7 @@ use crate::bitmap::room::reserve;
 use crate::kit::unchecked::put_lowest;
 use crate::memory::granted;
 use crate::native::levelled;
+use crate::proved::mask_bits::and_rows::and_rows_in_place;
 use crate::proved::mask_c;
 use crate::words::{for_each_bit, number_of};
 use crate::{Bitmap, BitmapBuf, Error};
@@ -61,6 +62,16 @@ impl BitmapBuf {
     /// ```
     pub fn retain(&mut self, mut is_kept: impl FnMut(usize) -> bool) {
         retain(&mut self.bytes, &mut is_kept);
+    }
+
+    /// Leaves those values true of whose rows a test says so, in place.
+    ///
+    /// # Errors
+    /// [`Error::RowsDiffer`].
+    pub fn retain_rows<T>(&mut self, rows: &[T], is_kept: impl Fn(&T) -> bool) -> Result<(), Error> {
+        Error::RowsDiffer { rows: rows.len(), len: self.len }.unless(rows.len() == self.len)?;
+        and_rows_in_place(&mut self.bytes, rows, &mut { is_kept });
+        Ok(())
     }
 
     /// Forgets all values, and keeps the memory.
