@@ -284,6 +284,12 @@ left_last {T} gives rows old cur new n word left begun few covered is_word part 
     (left_more gives rows old cur new n k word left (omega (arith, few)) (omega (arith, begun)) so_far.rest (λ j h. bit_of_window cur n word j is_word (omega (arith, h, few)))
     part (λ j h. here j (omega (arith, h, few)) (omega (arith, h, begun, covered))) before so_far.left))
 
+-- what is true in a list and in the same one
+pub and_itself : (a : List Bool) → and_of a a ≡ a
+and_itself [] = refl
+and_itself (true ∷ a) = ap (λ (xs : List Bool). true ∷ xs) (and_itself a)
+and_itself (false ∷ a) = ap (λ (xs : List Bool). false ∷ xs) (and_itself a)
+
 -- ---- a function of a row
 
 as_left : {F T : Type 0} (g : Shared F (Bor T × Unit {0}) Bool) (test : F) (rows : List T) (before left : List Bool) (f : T → Bool)

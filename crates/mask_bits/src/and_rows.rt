@@ -1,6 +1,6 @@
 //! What a test of their rows leaves of truth values.
 
-ghost use Rattle.std.specs.Prelude.{◌≡◌, ◌+◌, ◌*◌, ◌<◌, ◌≤◌, ℕ, false, IfOk, length, min, slice_index_or, take};
+ghost use Rattle.std.specs.Prelude.{◌≡◌, ◌+◌, ◌*◌, ◌<◌, ◌≤◌, ℕ, false, IfOk, length, min, slice_index_or, take, vec_len};
 ghost use Rattle.std.specs.Fn.{FnReturnsAt};
 ghost use Rattle.std.specs.Int.{bit_at};
 ghost use Rattle.mask_bits.specs.Bitmap.{bitmap};
@@ -9,6 +9,7 @@ ghost use Rattle.mask_bits.specs.Rows.{AreLeft, AreLeftAsComputed};
 ghost use Rattle.mask_bits.specs.Words.{word_bits};
 
 use crate::buffer::BitBuffer;
+use crate::byte_list::ByteList;
 use crate::combine::{And, combine};
 use crate::from_rows::{word_of_rows, word_of_whole};
 use crate::unchecked::put_lowest;
@@ -43,19 +44,24 @@ impl BitBuffer {
             (λ b. AreLeftAsComputed (F.post test) rows.now (values self.now) (values b)) }
         ensures len { IfOk result (λ b. length (values b) ≡ length (values self.now)) }
     {
-        let len = self.len();
-        let mut bytes = vec![in alloc; 0u8; 8 * started_words(len)]?;
-        combine::<And>(
-            self.bits(),
-            self.offset(),
-            self.bits(),
-            self.offset(),
-            len,
-            &mut bytes,
-        );
+        let mut bytes = copied(alloc, self)?;
         and_rows_in_place(&mut bytes, rows, &test);
-        BitBuffer::from_list(bytes, len)
+        BitBuffer::from_list(bytes, rows.len())
     }
+}
+
+// The values in bytes of their own, from the first bit on.
+#[tactic(auto, using(crate::proofs::CombineLemmas::combined_buffers, crate::proofs::Lists::BooleanLemmas::length_facts))]
+fn copied(alloc: Global, buffer: &BitBuffer) -> Result<ByteList, AllocError>
+    ensures list { IfOk result
+        (λ bytes. bitmap bytes.items 0 (length (values buffer.now)) ≡ values buffer.now) }
+    ensures covered { IfOk result (λ bytes. length (values buffer.now) ≤ 8 * vec_len bytes) }
+{
+    let (bits, offset, len) = (buffer.bits(), buffer.offset(), buffer.len());
+    let mut bytes = vec![in alloc; 0u8; 8 * started_words(len)]?;
+    // (what is true in a list and in the same one)
+    combine::<And>(bits, offset, bits, offset, len, &mut bytes);
+    Ok(bytes)
 }
 
 /// Leaves those of the first values of `bytes` true of whose rows a test says so, in place. The bits of `bytes` past them

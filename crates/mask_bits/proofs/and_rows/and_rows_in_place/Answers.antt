@@ -13,9 +13,9 @@ loop-i-preserved g c =
     let within : 64 * i + 64 ≤ length rows = omega (arith, c.loop-i-test.true) in
     elim c.if-word-ne0.branch [
       | then-word-ne0 w ↦ subst (λ bytes. IsLeftSoFar gives rows old bytes (64 * (i + 1))) (sym w.bytes-is)
-            (left_word gives rows old c.loop-i.bytes w.set_word.new.bytes i word w.left_of_whole-left.result within c.word_of-word.ensures w.left_of_whole-left.ensures w.set_word.ensures.here w.set_word.ensures.others c.loop-i.invariant)
+          (left_word gives rows old c.loop-i.bytes w.set_word.new.bytes i word w.left_of_whole-left.result within c.word_of-word.ensures w.left_of_whole-left.ensures w.set_word.ensures.here w.set_word.ensures.others c.loop-i.invariant)
       | else-word-ne0 w ↦ subst (λ bytes. IsLeftSoFar gives rows old bytes (64 * (i + 1))) (sym w.bytes-is)
-            (left_zero gives rows old c.loop-i.bytes i word c.word_of-word.ensures w.if-word-ne0.false c.loop-i.invariant)
+          (left_zero gives rows old c.loop-i.bytes i word c.word_of-word.ensures w.if-word-ne0.false c.loop-i.invariant)
     ]
 
 pub returns-then-whole-rows : goal.returns-then-whole-rows
