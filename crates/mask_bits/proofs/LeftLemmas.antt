@@ -1,43 +1,12 @@
--- What a test leaves of values: place by place, of the bits of words, and one bit after another.
-use Rattle.mask_bits.proofs.Common.{◌≡◌, ◌≢◌, ℕ, ◌+◌, ◌-◌, ◌*◌, ◌/◌, ◌%◌, ◌^◌, ◌<◌, ◌≤◌, ◌&&◌, Bool, true, false, List, [], ◌∷◌, length, get_or, map, min, put_mid, take, drop, zip, nat_eq, refl, sym, subst, ap, ◌∙◌, inl, inr, arith, All, All-nil, All-get_or, All-head, All-tail, ap₂, ◌++◌, repeated, get_or_past, bit_at_above, Bor, FnReturnsAt, Shared, bit_at, bit_and, bit_or, bool_byte, cases_eq, cases_lt, nat_tests, get_or-take, get_or-drop, bit_at-lt, bit_at-zero, bit_at_and, bit_at_or, bit_at_set_same, bit_at_set_other, w64, AreAnswers, AreLeft, AreLeftAsComputed, leaves, and_of, bitmap, backing_bit, window, word_bits, ◌⊎◌, length-take-le, length-drop}
+-- What a test leaves of the values of words and of bytes, and one bit after another.
+use Rattle.mask_bits.proofs.Common.{◌≡◌, ◌≢◌, ℕ, ◌+◌, ◌-◌, ◌*◌, ◌/◌, ◌%◌, ◌^◌, ◌<◌, ◌≤◌, Bool, true, false, List, [], ◌∷◌, length, get_or, map, min, put_mid, take, drop, zip, nat_eq, refl, sym, subst, ap, ◌∙◌, inl, inr, arith, All, All-head, All-tail, ap₂, ◌++◌, repeated, get_or_past, bit_at_above, Bor, FnReturnsAt, Shared, bit_at, bit_and, bit_or, bool_byte, cases_eq, cases_lt, nat_tests, get_or-take, get_or-drop, bit_at-lt, bit_at-zero, bit_at_and, bit_at_or, bit_at_set_same, bit_at_set_other, w64, AreAnswers, AreLeft, AreLeftAsComputed, leaves, and_of, bitmap, backing_bit, window, word_bits, ◌⊎◌, length-take-le, length-drop}
 use Rattle.mask_bits.proofs.BufferLemmas.{length-values}
 use Rattle.mask_bits.proofs.Lists.CountLemmas.{get_or-padded}
+use Rattle.mask_bits.proofs.Lists.LeavesLemmas.{LeavesEach, answer_at, left_from_places, places_of_left}
 use Rattle.mask_bits.proofs.Lists.Words.FrontLemmas.{get_or-front, get_or-put_mid_inside, get_or-window}
 use Rattle.mask_bits.proofs.Lists.Words.LowestLemmas.{low, low-within, low-set, low-first, bit_at-lowest_cleared, bit_at-lowest_others}
 use Rattle.mask_bits.proofs.Lists.Words.WordLemmas.{get_or-word_bits, length-word_bits}
-use Rattle.std.proofs.lemmas.List.Elements.{All-from_get_or}
-use Rattle.std.proofs.lemmas.Slice.Zip.{get_or-zip, length-zip}
-
--- ---- place by place
-
--- what is left of each value
-abbrev pub LeavesEach : {T : Type 0} → (T → Bool → Type 0) → List T → (ℕ → Bool) → (ℕ → Bool) → ℕ → Type 0
-LeavesEach {T} gives rows before left n = (j : ℕ) (d : T) → j < n → leaves gives (get_or rows j d) (before j) (left j)
-
-each_left : {T : Type 0} (gives : T → Bool → Type 0) (rows : List T) (a b : List Bool) → length rows ≤ length a → length b ≡ length rows
-    → LeavesEach gives rows (λ j. get_or a j false) (λ j. get_or b j false) (length rows) → All (λ p. leaves gives p.0.0 p.0.1 p.1) (zip (zip rows a) b)
-each_left gives [] a b enough len at = All-nil (λ p. leaves gives p.0.0 p.0.1 p.1)
-each_left {T} gives (r ∷ rows) a b enough len at =
-    let rs : List T = r ∷ rows in
-    let size = length-zip rs a in
-    All-from_get_or (λ (p : (T × Bool) × Bool). leaves gives p.0.0 p.0.1 p.1) (zip (zip rs a) b) ((r, false), false) (λ j h.
-    let few : j < length rs = omega (arith, size, length-zip (zip rs a) b) in
-    let pair = get_or-zip (zip rs a) b j ((r, false), false) (omega (arith, size)) (omega arith) in
-    let first = get_or-zip rs a j (r, false) few (omega arith) in
-    subst (λ (p : (T × Bool) × Bool). leaves gives p.0.0 p.0.1 p.1) (sym (pair ∙ ap (λ (p : T × Bool). (p, get_or b j false)) first)) (at j r few))
-
-pub left_from_places : {T : Type 0} (gives : T → Bool → Type 0) (rows : List T) (a b : List Bool) → length rows ≤ length a → length b ≡ length rows
-    → LeavesEach gives rows (λ j. get_or a j false) (λ j. get_or b j false) (length rows) → AreLeft gives rows a b
-left_from_places gives rows a b enough len at = record { len = omega (arith, length-zip rows a); each = each_left gives rows a b enough len at }
-
-pub places_of_left : {T : Type 0} (gives : T → Bool → Type 0) (rows : List T) (a b : List Bool) → length rows ≤ length a → AreLeft gives rows a b
-    → LeavesEach gives rows (λ j. get_or a j false) (λ j. get_or b j false) (length rows)
-places_of_left {T} gives rows a b enough left j d h =
-    let size = length-zip rows a in
-    let pair = get_or-zip (zip rows a) b j ((d, false), false) (omega (arith, size)) (omega (arith, size, left.len)) in
-    let first = get_or-zip rows a j (d, false) h (omega arith) in
-    subst (λ (p : (T × Bool) × Bool). leaves gives p.0.0 p.0.1 p.1) (pair ∙ ap (λ (p : T × Bool). (p, get_or b j false)) first)
-    (All-get_or (λ (p : (T × Bool) × Bool). leaves gives p.0.0 p.0.1 p.1) (zip (zip rows a) b) j ((d, false), false) (omega (arith, size, left.len, length-zip (zip rows a) b)) left.each)
+use Rattle.std.proofs.lemmas.Slice.Zip.{length-zip}
 
 -- ---- of a word
 
@@ -126,11 +95,6 @@ asked_within gives rows word asked left some fits within so_far = elim (cases_lt
 ]
 
 -- ---- by the answers of all rows
-
-answer_at : {T : Type 0} (gives : T → Bool → Type 0) (rows : List T) (answers : List Bool) (j : ℕ) (d : T) → j < length rows → AreAnswers gives rows answers → gives (get_or rows j d) (get_or answers j false)
-answer_at {T} gives rows answers j d h are =
-    subst (λ (p : T × Bool). gives p.0 p.1) (get_or-zip rows answers j (d, false) h (omega (arith, are.len)))
-    (All-get_or (λ (p : T × Bool). gives p.0 p.1) (zip rows answers) j (d, false) (omega (arith, are.len, length-zip rows answers)) are.each)
 
 bit_by_answers : {T : Type 0} (gives : T → Bool → Type 0) (row : T) (word answers j : ℕ) → gives row (nat_eq (bit_at answers j) 1) → leaves gives row (nat_eq (bit_at word j) 1) (nat_eq (bit_at (bit_and word answers) j) 1)
 bit_by_answers gives row word answers j given = elim (cases_eq (bit_at word j) 1) [

@@ -5,6 +5,7 @@ pub mod ChooseLemmas
 pub mod CountLemmas
 pub mod GroupLemmas
 pub mod LawLemmas
+pub mod LeavesLemmas
 pub mod LimitLemmas
 pub mod NullableLemmas
 pub mod PartLemmas

@@ -1,4 +1,4 @@
-use Rattle.mask_bits.proofs.Common.{◌≡◌, ℕ, ◌+◌, ◌*◌, ◌/◌, ◌≤◌, length, refl, sym, subst, ap, ◌∙◌, arith, FnReturnsAt, window, word_bits}
+use Rattle.mask_bits.proofs.Common.{◌≡◌, ℕ, ◌+◌, ◌*◌, ◌/◌, ◌≤◌, length, sym, subst, arith, FnReturnsAt}
 use Rattle.mask_bits.proofs.LeftLemmas.{IsLeftSoFar, left_word, left_zero, left_last, left_of_bytes}
 use Rattle.mask_bits.proofs.and_rows.and_rows_in_place.Goals as goal
 use Rattle.mask_bits.proofs.and_rows.and_rows_in_place.Goals.{then-word-ne0, else-word-ne0}
