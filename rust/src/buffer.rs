@@ -71,6 +71,18 @@ impl BitBuffer {
         granted(BitBuffer::try_from_rows(rows, unsafe { as_fn(test) }), rows.len())
     }
 
+    /// The values that are true here and of whose rows a test says so too. It is a plain function of a row: where few of
+    /// 64 values are true it is asked of their rows alone, and else of all 64 together.
+    ///
+    /// # Panics
+    /// Where there are more or fewer rows than values.
+    #[inline]
+    #[must_use]
+    #[track_caller]
+    pub fn and_rows<T>(&self, rows: &[T], test: impl Fn(&T) -> bool) -> BitBuffer {
+        granted(self.try_and_rows(rows, test), rows.len())
+    }
+
     /// The values in a range, without a copy.
     ///
     /// # Panics

@@ -24,11 +24,11 @@ const WIDE: usize = 16;
 const MANY_WIDE: usize = 50;
 
 impl BitBuffer {
-    /// The values that are true here, and of whose rows a test says so too: value `i` is this one's and the test's answer
-    /// of row `i`.
+    /// The values that are true here and of whose rows a test says so too: value `i` is true exactly where it is here and
+    /// the test answers so of row `i`.
     ///
-    /// The next one of several tests of a column's rows. Where few of 64 rows are left, it is asked of these alone, and
-    /// else of all 64, so of rows too that aren't left.
+    /// The next one of several tests of a column's rows. The test is a function of a row: where few of 64 values are true,
+    /// it is asked of their rows alone, and else of all 64 together, so of rows too that aren't left.
     // rust: named try_and_rows
     pub fn and_rows<T, F: Fn(&T) -> bool>(
         &self,
@@ -66,7 +66,7 @@ fn copied(alloc: Global, buffer: &BitBuffer) -> Result<ByteList, AllocError>
 
 /// Leaves those of the first values of `bytes` true of whose rows a test says so, in place. The bits of `bytes` past them
 /// have no meaning.
-// rust: level
+// rust: level if rows.len() > 128
 pub fn and_rows_in_place<T, F: Fn(&T) -> bool>(bytes: &mut [u8], rows: &[T], test: &F)
     requires covered { length rows.now ≤ 8 * length bytes.old }
     requires callable { F.IsAlwaysCallable test.now }

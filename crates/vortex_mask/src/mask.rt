@@ -1,6 +1,7 @@
 //! Masks: lists of truth values that say which rows are chosen.
 
 mod all_or;
+mod and_rows;
 mod cached;
 mod choose;
 mod choose_values;

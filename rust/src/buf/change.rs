@@ -52,7 +52,8 @@ impl BitmapBuf {
     }
 
     /// Leaves those true values true of whose indices `is_kept` says so, in place. It is asked of true values alone, in
-    /// their order: a predicate over the rows that others left.
+    /// their order: a predicate over the rows that others left. [`retain_rows`](Self::retain_rows) takes less time where
+    /// the rows are a slice, and many are left.
     ///
     /// ```
     /// let prices = [250, 700, 120, 90];
@@ -64,7 +65,18 @@ impl BitmapBuf {
         retain(&mut self.bytes, &mut is_kept);
     }
 
-    /// Leaves those values true of whose rows a test says so, in place.
+    /// Leaves those values true of whose rows a test says so, in place: the next predicate over a column's rows. The test
+    /// is a plain function of a row: where few of 64 rows are left it is asked of these alone, and where many are, of all
+    /// 64 together, so that some are asked for nothing. Of a test that changes something, or that takes long of rows of
+    /// fewer than 16 bytes, as a look-up does, [`retain`](Self::retain) asks true values alone.
+    ///
+    /// ```
+    /// let prices = [250, 700, 120, 90];
+    /// let mut rows = row_mask::BitmapBuf::from(&[true, true, false, true][..]);
+    /// rows.retain_rows(&prices, |price| *price < 400)?;
+    /// assert_eq!(rows.to_string(), "1001");
+    /// # Ok::<(), row_mask::Error>(())
+    /// ```
     ///
     /// # Errors
     /// [`Error::RowsDiffer`].

@@ -173,6 +173,26 @@ impl Mask {
         granted(Mask::try_from_rows(rows, unsafe { as_fn(test) }), rows.len())
     }
 
+    /// The values that are true here and of whose rows a test says so too: the next one of several tests. It is a plain
+    /// function of a row: where few of 64 values are true it is asked of their rows alone, and else of all 64 together.
+    ///
+    /// ```
+    /// use row_mask::Mask;
+    ///
+    /// let prices = [3, 8, 5, 9];
+    /// let above = Mask::from_rows(&prices, |price| *price > 4);
+    /// assert_eq!(above.and_rows(&prices, |price| *price < 9).to_string(), "0110");
+    /// ```
+    ///
+    /// # Panics
+    /// Where there are more or fewer rows than values.
+    #[inline]
+    #[must_use]
+    #[track_caller]
+    pub fn and_rows<T>(&self, rows: &[T], test: impl Fn(&T) -> bool) -> Mask {
+        granted(self.try_and_rows(rows, test), rows.len())
+    }
+
     /// The values of masks, one mask after another. No values give `AllTrue(0)`. It is `collect` by a name of its own.
     ///
     /// # Panics

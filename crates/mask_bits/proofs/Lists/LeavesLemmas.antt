@@ -1,5 +1,6 @@
 -- What a test leaves of values, place by place, and of lists of one value.
-use Rattle.mask_bits.proofs.Common.{◌≡◌, ℕ, ◌<◌, ◌≤◌, Bool, true, false, List, [], ◌∷◌, length, get_or, zip, sym, subst, ap, ◌∙◌, arith, All, All-nil, All-get_or, AreAnswers, AreLeft, leaves, repeated}
+use Rattle.mask_bits.proofs.Common.{◌≡◌, ℕ, ◌<◌, ◌≤◌, Bool, true, false, List, [], ◌∷◌, length, get_or, zip, and_of, ◌&&◌, refl, sym, subst, ap, ◌∙◌, arith, All, All-nil, All-get_or, AreAnswers, AreLeft, leaves, repeated}
+use Rattle.mask_bits.proofs.Lists.BooleanLemmas.{combined-left, map-itself, map-one}
 use Rattle.mask_bits.proofs.Lists.CountLemmas.{get_or-repeated, length-repeated}
 use Rattle.std.proofs.lemmas.List.Elements.{All-from_get_or}
 use Rattle.std.proofs.lemmas.Slice.Zip.{get_or-zip, length-zip}
@@ -50,3 +51,10 @@ left_of_false gives rows n same =
     left_from_places gives rows (repeated n false) (repeated n false) (omega (arith, same, length-repeated n false)) (length-repeated n false ∙ sym same) (λ j d h.
     let none = get_or-repeated n j false false (omega (arith, h, same)) in
     subst (λ (x : Bool). leaves gives (get_or rows j d) x (get_or (repeated n false) j false)) (sym none) none)
+
+-- true values and others are the others, and false values and others are false
+pub and_of_true : (n : ℕ) (m : List Bool) → length m ≡ n → and_of (repeated n true) m ≡ m
+and_of_true n m len = subst (λ (k : ℕ). and_of (repeated k true) m ≡ m) len (combined-left (λ x y. x && y) true (λ y. y) (λ y. refl) m ∙ map-itself m)
+
+pub and_of_false : (n : ℕ) (m : List Bool) → length m ≡ n → and_of (repeated n false) m ≡ repeated n false
+and_of_false n m len = subst (λ (k : ℕ). and_of (repeated k false) m ≡ repeated k false) len (combined-left (λ x y. x && y) false (λ y. false) (λ y. refl) m ∙ map-one false m)
