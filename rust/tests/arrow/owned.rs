@@ -122,10 +122,11 @@ fn width(format: &str) -> usize {
 
 /// Numbers of so many bytes.
 fn numbers(numbers: impl IntoIterator<Item = usize>, width: usize) -> Vec<u8> {
-    assert_eq!(1_u16.to_ne_bytes()[0], u8::from(cfg!(target_endian = "little")));
-    let bytes = |number: usize| {
-        let all = (number as u64).to_le_bytes()[..width].to_vec();
-        if cfg!(target_endian = "big") { all.into_iter().rev().collect() } else { all }
+    let bytes = |number: usize| match width {
+        1 => vec![number as u8],
+        2 => (number as u16).to_ne_bytes().to_vec(),
+        4 => (number as u32).to_ne_bytes().to_vec(),
+        _ => (number as u64).to_ne_bytes().to_vec(),
     };
     numbers.into_iter().flat_map(bytes).collect()
 }
@@ -304,12 +305,13 @@ impl Read<'_> {
     }
 
     fn number(&self, buffer: usize, width: usize, i: usize) -> usize {
-        let mut bytes = [0; 8];
-        bytes[..width].copy_from_slice(self.bytes(buffer, width * i, width));
-        if cfg!(target_endian = "big") {
-            bytes[..width].reverse();
+        let bytes = self.bytes(buffer, width * i, width);
+        match width {
+            1 => bytes[0].into(),
+            2 => u16::from_ne_bytes(bytes.try_into().unwrap()).into(),
+            4 => u32::from_ne_bytes(bytes.try_into().unwrap()) as usize,
+            _ => u64::from_ne_bytes(bytes.try_into().unwrap()) as usize,
         }
-        u64::from_le_bytes(bytes) as usize
     }
 
     fn bit(&self, buffer: usize, i: usize) -> bool {
@@ -330,7 +332,7 @@ impl Read<'_> {
     }
 
     /// What is in row `i`, counted from the front of the buffers.
-    fn item(&self, i: usize, values: &[Item], children: &[Vec<Item>], child_from: usize) -> Item {
+    fn item(&self, i: usize, values: &[Item], children: &[Vec<Item>]) -> Item {
         // SAFETY: there is a buffer for the validity.
         let has_validity = unsafe { !(*self.array.buffers).is_null() };
         let run = || {
@@ -342,7 +344,7 @@ impl Read<'_> {
             _ if !values.is_empty() => values[self.number(1, width(self.format), i)].clone(),
             "vu" | "vz" => Item::Bytes(self.view(i).to_vec()),
             "+l" | "+L" => Item::Items(children[0][run()].to_vec()),
-            "+s" => Item::Items(children.iter().map(|it| it[i - child_from].clone()).collect()),
+            "+s" => Item::Items(children.iter().map(|it| it[i].clone()).collect()),
             "u" | "Z" => Item::Bytes(self.bytes(2, run().start, run().len()).to_vec()),
             "b" => Item::Bytes(vec![u8::from(self.bit(1, i))]),
             it => Item::Bytes(self.bytes(1, width(it) * i, width(it)).to_vec()),
@@ -362,5 +364,5 @@ pub fn items_of(kind: &Type, array: &ArrowArray) -> Vec<Item> {
     });
     let read = Read { format: kind.format(), array };
     let from = array.offset as usize;
-    (from..from + array.length as usize).map(|i| read.item(i, &values, &children, 0)).collect()
+    (from..from + array.length as usize).map(|i| read.item(i, &values, &children)).collect()
 }
