@@ -7,7 +7,9 @@ mod aborts;
 mod memory;
 
 use memory::{AHEAD, LITTLE, lacks, limit, refused, within};
-use row_mask::{Bitmap, BitmapBuf, Error, Offset, Selection, Strings};
+use row_mask::{
+    Bitmap, BitmapBuf, Error, NullableBitmap, NullableBitmapBuf, Offset, Selection, Strings,
+};
 use std::fmt::Debug;
 use std::ops::{Bound, Range};
 use std::path::Path;
@@ -276,10 +278,12 @@ fn lengths_that_differ() {
         assert_eq!(refused(|| a.or(b)), differ);
         assert_eq!(refused(|| a.xor(b)), differ);
         assert_eq!(refused(|| a.and_not(b)), differ);
+        assert_eq!(refused(|| a.or_not(b)), differ);
         assert_eq!(refused(|| a.and_into(b, &mut made)), differ);
         assert_eq!(refused(|| a.or_into(b, &mut made)), differ);
         assert_eq!(refused(|| a.xor_into(b, &mut made)), differ);
         assert_eq!(refused(|| a.and_not_into(b, &mut made)), differ);
+        assert_eq!(refused(|| a.or_not_into(b, &mut made)), differ);
         assert_eq!((a.and_count(b), a.intersects(b)), (Err(differ), Err(differ)));
         assert_eq!((a.is_subset(b), a == b), (Err(differ), false));
         let ranks = Error::RanksDiffer { ranks: right, count: a.count() };
@@ -354,7 +358,9 @@ fn memory_that_runs_out() {
     let len = 8 * (600 << 20);
     let rows = BitmapBuf::all_false(len);
     let (rows, mut made) = (rows.as_bitmap(), BitmapBuf::all_true(9));
-    for refusal in [rows.and(rows), rows.or(rows), rows.xor(rows), rows.and_not(rows)] {
+    for refusal in
+        [rows.and(rows), rows.or(rows), rows.xor(rows), rows.and_not(rows), rows.or_not(rows)]
+    {
         lacks(len, || refusal);
     }
     lacks(len, || rows.not_into(&mut made));
@@ -368,6 +374,52 @@ fn memory_that_runs_out() {
     let one = Selection::new(Bitmap::new(&[1], 0, 1).unwrap());
     let offsets = [0, u64::try_from(bytes.len()).unwrap()];
     lacks(len, || one.choose_strings(&offsets, bytes));
+}
+
+#[test]
+fn nulls_that_differ_or_find_no_room() {
+    let _alone = limit();
+    let (many, eight) = (BitmapBuf::all_true(MANY), BitmapBuf::all_false(8));
+    let differ = Error::LengthsDiffer { left: MANY, right: 8 };
+    assert_eq!(refused(|| NullableBitmap::new(many.as_bitmap(), Some((&eight).into()))), differ);
+    assert_eq!(NullableBitmapBuf::new(many.clone(), Some(eight.clone())).unwrap_err(), differ);
+    let list = NullableBitmap::new(many.as_bitmap(), Some(many.as_bitmap())).unwrap();
+    let (mut values, mut validity) = (BitmapBuf::all_true(9), [0xA5; 2]);
+    assert_eq!(refused(|| list.and_kleene(&eight)), differ);
+    assert_eq!(refused(|| list.or_kleene(&eight)), differ);
+    assert_eq!(refused(|| list.and_kleene_into(&eight, &mut values, &mut validity[..])), differ);
+    assert_eq!(refused(|| list.or_kleene_into(&eight, &mut values, &mut validity[..])), differ);
+    // (there is room for the values, and none for the validity, or the other way round)
+    let (refusal, mut kept) = (small(2, MANY / 8), values.clone());
+    assert_eq!(list.and_kleene_into(list, &mut kept, &mut validity[..]), Err(refusal));
+    assert_eq!(list.or_kleene_into(list, &mut validity[..], &mut kept), Err(refusal));
+    assert_eq!(list.not_into(&mut kept, &mut validity[..]), Err(refusal));
+    assert_eq!(refused(|| list.is_true_into(&mut validity[..])), refusal);
+    assert_eq!(refused(|| list.is_not_false_into(&mut validity[..])), refusal);
+    assert_eq!(refused(|| list.is_null_into(&mut validity[..])), refusal);
+    assert_eq!((&kept, validity), (&values, [0xA5; 2]));
+    assert_eq!((list.len(), list.null_count(), list.get(MANY)), (MANY, 0, None));
+    assert_eq!((list.is_true(), list.is_null().any()), (many.clone(), false));
+    assert!(list.is_not_false() == many && list.values() == list.validity().unwrap());
+    let parts = NullableBitmapBuf::from(many).into_parts();
+    assert_eq!((parts.0.len(), parts.1), (MANY, None));
+}
+
+#[test]
+fn memory_that_runs_out_for_the_second_of_two() {
+    let _alone = limit();
+    // 400 MiB are there twice, and not a third time
+    let len = 8 * (400 << 20);
+    let rows = BitmapBuf::all_false(len);
+    let rows = NullableBitmap::new(rows.as_bitmap(), Some(rows.as_bitmap())).unwrap();
+    let (mut values, mut validity) = (BitmapBuf::all_true(9), BitmapBuf::all_true(3));
+    values.reserve(len);
+    lacks(len, || rows.and_kleene_into(rows, &mut values, &mut validity));
+    lacks(len, || rows.or_kleene_into(rows, &mut values, &mut validity));
+    lacks(len, || rows.not_into(&mut values, &mut validity));
+    assert_eq!((values.to_string(), validity.to_string()), ("1".repeat(9), "1".repeat(3)));
+    drop(values);
+    lacks(len, || rows.and_kleene(rows).map(|_| ()));
 }
 
 #[test]
