@@ -1,6 +1,6 @@
 //! What a bitmap of its own bytes is made of.
 
-use super::pack::{AHEAD, pack_fn, pack_rows};
+use super::pack::{AHEAD, pack_first, pack_fn, pack_rows};
 use crate::bitmap::range_within;
 use crate::bitmap::room::{append_to, as_items, made};
 use crate::kit::zeros;
@@ -150,10 +150,10 @@ impl BitmapBuf {
         values: impl IntoIterator<Item = bool, IntoIter: ExactSizeIterator>,
         out: &mut (impl Room + ?Sized),
     ) -> Result<(), Error> {
-        let (mut values, mut count) = (values.into_iter().fuse(), 0);
+        let (values, mut count) = (values.into_iter(), 0);
         let len = values.len();
-        let next = |_| values.next().inspect(|_| count += 1) == Some(true);
-        BitmapBuf::from_fn_into(len, next, out)?;
+        // SAFETY: it writes each byte, and reads none before.
+        unsafe { out.write(len, |out| count = pack_first(len, values, out))? };
         out.keep(count);
         Ok(())
     }

@@ -21,7 +21,7 @@ const FEW: usize = 128;
 
 /// Takes values, as many as there are or as the block has places, and answers how many these are.
 #[inline]
-fn take(block: &mut Block, values: impl Iterator<Item = bool>) -> usize {
+fn take(block: &mut [MaybeUninit<u16>], values: impl Iterator<Item = bool>) -> usize {
     let mut count = 0;
     for (place, value) in block.iter_mut().zip(values) {
         place.write(value.into());
@@ -37,6 +37,29 @@ pub(super) fn pack_fn(len: usize, mut value: impl FnMut(usize) -> bool, out: &mu
         let count = take(&mut block, (start..len.min(start + BLOCK)).map(&mut value));
         pack_block(&mut block, count, out);
     }
+}
+
+/// Writes each byte of the first `len` values of an iterator, to just the bytes that they take, and answers how many there
+/// were. Where they are fewer, false ones follow.
+pub(super) fn pack_first(
+    len: usize,
+    mut values: impl Iterator<Item = bool>,
+    out: &mut [u8],
+) -> usize {
+    let (mut block, mut taken) = ([MaybeUninit::uninit(); BLOCK], 0);
+    let mut parts = out.chunks_mut(BLOCK / 8);
+    for (out, start) in parts.by_ref().zip((0..len).step_by(BLOCK)) {
+        let wanted = BLOCK.min(len - start);
+        taken += take(&mut block[..wanted], values.by_ref());
+        let missing = start + wanted - taken;
+        block[wanted - missing..wanted].fill(MaybeUninit::new(0));
+        pack_block(&mut block, wanted, out);
+        if missing > 0 {
+            break;
+        }
+    }
+    parts.for_each(|out| out.fill(0));
+    taken
 }
 
 /// Writes each byte of the first `count` values of a block, which were taken, to just the bytes that they take.

@@ -112,6 +112,10 @@ fn what_changes_and_makers_ask_is_tested() {
     assert_eq!(BitmapBuf::collect_into(few, &mut room[..]), Ok(()));
     let want = BitmapBuf::from_fn(1300, |i| i < 601);
     assert_eq!(&room[..], want.as_bytes());
+    let (few, mut long) = (Says { values: 1100, said: 4000 }, [0xA5; 501]);
+    assert_eq!(BitmapBuf::collect_into(few, &mut long[..]), Ok(()));
+    assert_eq!(long[..500], *BitmapBuf::from_fn(4000, |i| i < 1100).as_bytes());
+    assert_eq!(long[500], 0xA5);
     let (many, mut made) = (Says { values: 1300, said: 601 }, want);
     assert_eq!(BitmapBuf::collect_into(many, &mut made), Ok(()));
     assert_eq!(made, BitmapBuf::all_true(601));
