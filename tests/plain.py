@@ -149,6 +149,12 @@ def limited(values, k):
     return values[:end] + "0" * (len(values) - end)
 
 
+def without_first(values, k):
+    """The values, of which all true ones but the first k stay."""
+    begin = max(indices(values)[:k], default=-1) + 1
+    return "0" * begin + values[begin:]
+
+
 def at_rows(rows, values):
     """The values at the true ones of `rows`: of a word, its bits at set places, one after another."""
     return "".join(values[i] for i in indices(rows))
@@ -253,6 +259,7 @@ ANSWERS = {
     "threshold_iter": lambda a, b, numbers, lists: threshold_text(a, *numbers, lists),
     "slice": lambda a, b, ends, lists: cached_text(a.part(*ends), (lists or "") * ([*ends] == [0, len(a.values)])),
     "limit,to_limited": lambda a, b, k, _: mask_text(mask(limited(a.values, k[0]), a.is_all_true)),
+    "without_first": lambda a, b, k, _: mask_text(mask(without_first(a.values, k[0]), a.is_all_true)),
     "groups": lambda a, b, n, _: ",".join(mask_text(a.part(i, i + n[0])) for i in range(0, len(a.values), n[0])) or "-",
     "valid_counts_for_indices": lambda a, b, numbers, _: list_text(counts(a.values)[i] for i in numbers),
     "choose": lambda a, b, rows, _: list_text(rows[i] for i in indices(a.values)),

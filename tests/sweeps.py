@@ -71,6 +71,7 @@ def calls(a, operand):
         yield row(names, a, operand, mask(repeating(count, 3, 1)))
     for k in sorted({0, 1, count // 2, max(count - 1, 0), count, count + 1, 65_536, MAX}):
         yield row("limit,to_limited", a, operand, numbers=[k])
+        yield row("without_first", a, operand, numbers=[k])
     for it in [(0, length), (0, length // 3), (length // 3, length), (length // 5, length // 2), (length, length)]:
         yield row("slice", a, operand, numbers=it)
     yield from (row("groups", a, operand, numbers=[it]) for it in (65, max(length // 3, 1), MAX))

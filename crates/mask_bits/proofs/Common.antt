@@ -8,7 +8,7 @@ pub use Rattle.mask_bits.specs.Combine.{AreCombined, IsCombinedBetween, IsNoneTr
 unfoldable pub use Rattle.mask_bits.specs.Extract.{closed_up, gathered}
 pub use Rattle.mask_bits.specs.Extract.{Extracts, two_words}
 pub use Rattle.mask_bits.specs.Lanes.{AreLanes, AreLanesOf, ArePacked}
-unfoldable pub use Rattle.mask_bits.specs.Lists.{limited}
+unfoldable pub use Rattle.mask_bits.specs.Lists.{limited, without_first}
 pub use Rattle.mask_bits.specs.Lists.{and_not_of, and_of, combined, concat, group, not_of, or_of, xor_of}
 pub use Rattle.mask_bits.specs.Number.{number}
 unfoldable pub use Rattle.mask_bits.specs.Positions.{chosen, repeated, true_at}

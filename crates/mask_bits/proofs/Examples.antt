@@ -1,5 +1,5 @@
 -- Worked examples of the words that make lists of truth values, computed by the checker.
-use Rattle.mask_bits.proofs.Common.{ℕ, ◌≡◌, ◌<◌, Bool, true, false, List, [], ◌∷◌, Option, None, Some, slice_range, refl, arith, beq, pointwise, true_at, IsFirstFrom, AreRanges, AreRuns, IsStack, folded_left, folded_right, word_bits, window, and_of, or_of, not_of, and_not_of, concat, limited, positions, count_below, rank_intersection, repeated, chosen, values}
+use Rattle.mask_bits.proofs.Common.{ℕ, ◌≡◌, ◌<◌, Bool, true, false, List, [], ◌∷◌, Option, None, Some, slice_range, refl, arith, beq, pointwise, true_at, IsFirstFrom, AreRanges, AreRuns, IsStack, folded_left, folded_right, word_bits, window, and_of, or_of, not_of, and_not_of, concat, limited, without_first, positions, count_below, rank_intersection, repeated, chosen, values}
 use Rattle.mask_bits.specs.Nullable.{and_kleene_of, or_kleene_of, not_kleene_of, is_true_of, is_not_false_of, is_null_of, nullable}
 use Rattle.mask_bits.proofs.Lists.Runs.RangeLemmas.{ranges_add_up_to_the_count}
 use Rattle.mask_bits.proofs.Lists.Runs.RunLemmas.{AreRuns-runs_from, runs_are_ranges}
@@ -78,6 +78,24 @@ limited_to_more = refl
 limited_by_places : pointwise beq (limited m 2) (false ∷ true ∷ false ∷ false ∷ false ∷ []) ≡ false
 unfolding limited
 limited_by_places = refl
+
+-- and without its first two true values, its first none, and more than it has
+without_first_example : without_first m 2 ≡ false ∷ false ∷ false ∷ false ∷ true ∷ []
+unfolding without_first
+without_first_example = refl
+
+without_first_none : without_first m 0 ≡ m
+unfolding without_first
+without_first_none = refl
+
+without_more : without_first m 9 ≡ false ∷ false ∷ false ∷ false ∷ false ∷ []
+unfolding without_first
+without_more = refl
+
+-- it leaves out true values, and not places
+without_first_by_places : pointwise beq (without_first m 2) (false ∷ false ∷ true ∷ false ∷ true ∷ []) ≡ false
+unfolding without_first
+without_first_by_places = refl
 
 -- ---- runs and ranges of 10110
 

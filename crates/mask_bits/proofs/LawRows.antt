@@ -1,9 +1,9 @@
 -- What the laws that stand for themselves say of lists that are known: each row takes a law, and computes one instance of it.
-use Rattle.mask_bits.proofs.Common.{ℕ, ◌≡◌, Bool, true, false, List, [], ◌∷◌, length, nat_lt, slice_range, slice_get, Option, None, Some, refl, sym, arith, slice_index, slice_index_or, and_of, or_of, not_of, and_not_of, concat, limited, positions, count, count_below, rank_intersection, repeated, AreAnswers, AreAsComputed, AreRanges, AreRuns}
+use Rattle.mask_bits.proofs.Common.{ℕ, ◌≡◌, Bool, true, false, List, [], ◌∷◌, length, nat_lt, slice_range, slice_get, Option, None, Some, refl, sym, arith, slice_index, slice_index_or, and_of, or_of, not_of, and_not_of, concat, limited, without_first, take, drop, positions, count, count_below, rank_intersection, repeated, AreAnswers, AreAsComputed, AreRanges, AreRuns}
 use Rattle.mask_bits.specs.Laws.Boolean.{IsFreeOfOrder, DistributesOver, Absorbs, HasComplements, AndNotIsAndOfNot}
 use Rattle.mask_bits.specs.Laws.Indices.{PositionsDetermineList, CountBelowPosition}
 use Rattle.mask_bits.specs.Laws.Nullable.{IsDeMorgan, IsTrueOfParts, KeepsNoNull, IsNotTwice, IsNotFalseOfNot, IsPlainWithoutNulls, IsByParts}
-use Rattle.mask_bits.specs.Laws.Parts.{PartOfPart, PartOfConcat, LimitOfLimit, HasLimitCount}
+use Rattle.mask_bits.specs.Laws.Parts.{PartOfPart, PartOfConcat, LimitOfLimit, HasLimitCount, HasCountWithoutFirst, AreSplitAtLimit}
 use Rattle.mask_bits.specs.Laws.RankIntersection.{IsRankIntersection, RankIntersectionIsTheList, RankIntersectionValue, AllTrueLeftUnit, AllTrueRightUnit, RankIntersectionPosition, RankIntersectionOfAnd, RankIntersectionOfNot}
 use Rattle.mask_bits.specs.Nullable.{and_kleene_of, or_kleene_of, not_kleene_of, is_true_of, is_not_false_of, is_null_of, nullable}
 use Rattle.mask_bits.specs.Laws.Runs.{RunsExist, RunsAreUnique, RunsAreRanges}
@@ -153,6 +153,18 @@ count_of_limit law = law.count m 2
 
 count_of_limit_past_the_count : HasLimitCount → count (limited m 9) ≡ 3
 count_of_limit_past_the_count law = law.count m 9
+
+count_without_first : HasCountWithoutFirst → count (without_first m 2) ≡ 1
+count_without_first law = law.count m 2
+
+length_without_first : HasCountWithoutFirst → (xs : List Bool) → length (without_first xs 2) ≡ length xs
+length_without_first law xs = law.len xs 2
+
+places_of_a_limit : AreSplitAtLimit → (xs : List Bool) → positions (limited xs 2) ≡ take 2 (positions xs)
+places_of_a_limit law xs = law.first xs 2
+
+places_of_the_others : AreSplitAtLimit → (xs : List Bool) → positions (without_first xs 2) ≡ drop 2 (positions xs)
+places_of_the_others law xs = law.others xs 2
 
 -- ---- answers of a test
 

@@ -15,4 +15,5 @@ pub mod RankLemmas
 pub mod RowLemmas
 pub mod Runs
 pub mod StackLemmas
+pub mod WithoutFirstLemmas
 pub mod Words

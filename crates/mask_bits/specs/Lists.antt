@@ -1,4 +1,5 @@
--- Lists of truth values that are made of others: value by value, one after another, in groups, and cut to the first true values.
+-- Lists of truth values that are made of others: value by value, one after another, in groups, and cut to the first true values
+-- or to those behind them.
 use Rattle.std.specs.Prelude.{ℕ, ◌+◌, ◌-◌, ◌*◌, Bool, false, not, ◌&&◌, ◌||◌, nat_lt, min, List, length, map, zip, flat_map, slice_index_or, slice_range}
 use Rattle.std.specs.List.{range_with_len}
 use Rattle.mask_bits.specs.Positions.{count_below}
@@ -38,3 +39,7 @@ group m size g = slice_range m (size * g) (size * g + min size (length m - size 
 -- value i is true exactly if m's is and fewer than k of the values before it are true
 unfoldable pub limited : List Bool → ℕ → List Bool
 limited m k = map (λ i. slice_index_or m i false && nat_lt (count_below m i) k) (range_with_len 0 (length m))
+
+-- value i is true exactly if m's is and not fewer than k of the values before it are true
+unfoldable pub without_first : List Bool → ℕ → List Bool
+without_first m k = map (λ i. slice_index_or m i false && not (nat_lt (count_below m i) k)) (range_with_len 0 (length m))

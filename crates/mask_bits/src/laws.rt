@@ -18,7 +18,9 @@ pub use nullable::{
     kleene_by_parts, kleene_de_morgan, kleene_filter_keeps_no_null, kleene_is_not_false_of_not,
     kleene_is_true, kleene_not_twice, kleene_row_by_row, kleene_without_nulls,
 };
-pub use parts::{limit_count, limit_of_limit, part_of_concat, part_of_part};
+pub use parts::{
+    limit_count, limit_of_limit, part_of_concat, part_of_part, split_at_limit, without_first_count,
+};
 pub use rank_intersection::{
     all_true_left_unit, all_true_right_unit, choosing_twice, rank_intersection_associative,
     rank_intersection_count, rank_intersection_is_the_list, rank_intersection_of_and,

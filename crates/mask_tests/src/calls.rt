@@ -60,6 +60,7 @@ fn mask_parts(name: &str, o: &mut Operands, text: &mut Text) -> Found {
         "to_bit_buffer" (a) => a.to_bit_buffer(alloc),
         "from_bools" (a) => Mask::from_bools(alloc, a.iter()),
         "to_limited" (a m) => a.to_limited(alloc, m),
+        "without_first" (a m) => a.without_first(alloc, m),
         "slice" (a m n) [m <= n && n <= a.len(), "a range within the mask"] => a.slice(alloc, m, n),
         "groups" (a n) [n > 0, "groups of some rows"] => a.groups(alloc, n),
     }

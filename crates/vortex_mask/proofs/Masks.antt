@@ -13,3 +13,4 @@ pub mod MergeLemmas
 pub mod ReadingLemmas
 pub mod SetRangeLemmas
 pub mod SoundRangeLemmas
+pub mod WithoutFirstLemmas

@@ -19,6 +19,7 @@ mod lookup;
 mod set_ranges;
 mod slice;
 mod values;
+mod without_first;
 
 ghost use Rattle.std.specs.Prelude.{◌≡◌, ◌≢◌, ◌+◌, ◌<◌, ◌↔◌, [], true, false, if◌then◌else◌, IsTrue, IsOk, IfOk, Some, length, All, slice_get, IsOkUnless, alloc_error, ◌-◌, ◌≤◌, IfSome, map, ◌*◌, slice_range};
 ghost use Rattle.std.specs.Option.{option_copied};

@@ -51,6 +51,22 @@ impl Mask {
         granted(self.try_to_limited(limit), self.len())
     }
 
+    /// All true values of the mask but the first `count`, which are false then: SQL's `OFFSET`, before
+    /// [`limit`](Mask::limit). It stays as long as it is.
+    ///
+    /// ```
+    /// use row_mask::Mask;
+    ///
+    /// let mask = Mask::from_indices(6, [0, 2, 3, 5]);
+    /// assert_eq!(mask.without_first(1).limit(2).to_string(), "001100");
+    /// ```
+    #[doc(alias("offset", "skip"))]
+    #[inline]
+    #[must_use]
+    pub fn without_first(&self, count: usize) -> Mask {
+        granted(self.try_without_first(count), self.len())
+    }
+
     /// The values that are true here and false in the other: the rows of this one without those of that.
     ///
     /// ```

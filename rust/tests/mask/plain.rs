@@ -74,6 +74,7 @@ fn calls_are_as_those_that_may_refuse() {
             for k in [0, count / 2, count, usize::MAX] {
                 same(mask.to_limited(k), mask.try_to_limited(k));
                 same(mask.clone().limit(k), mask.try_to_limited(k));
+                same(mask.without_first(k), mask.try_without_first(k));
             }
             ranges_are_alike(&mask);
             lists_are_alike(&mask);

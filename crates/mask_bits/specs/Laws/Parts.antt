@@ -1,7 +1,7 @@
 -- What holds of parts, groups and limits.
-use Rattle.std.specs.Prelude.{ℕ, ◌+◌, ◌≡◌, ◌≤◌, Bool, List, ◌∷◌, ◌++◌, length, ◌-◌, min, slice_range}
-use Rattle.mask_bits.specs.Lists.{limited, concat}
-use Rattle.mask_bits.specs.Positions.{count}
+use Rattle.std.specs.Prelude.{ℕ, ◌+◌, ◌≡◌, ◌≤◌, Bool, List, ◌∷◌, ◌++◌, length, take, drop, ◌-◌, min, slice_range}
+use Rattle.mask_bits.specs.Lists.{limited, without_first, concat}
+use Rattle.mask_bits.specs.Positions.{count, positions}
 
 -- a part of a part is one part, with the starts added
 abbrev pub PartOfPart : Type 0
@@ -21,3 +21,13 @@ LimitOfLimit = (m : List Bool) (k j : ℕ) → limited (limited m k) j ≡ limit
 pub record HasLimitCount : Type 0 where
   pub len : (m : List Bool) (k : ℕ) → length (limited m k) ≡ length m
   pub count : (m : List Bool) (k : ℕ) → count (limited m k) ≡ min k (count m)
+
+-- a list without its first true values is as long, and has the others
+pub record HasCountWithoutFirst : Type 0 where
+  pub len : (m : List Bool) (k : ℕ) → length (without_first m k) ≡ length m
+  pub count : (m : List Bool) (k : ℕ) → count (without_first m k) ≡ count m - k
+
+-- of the indices of the true values a limited list has the first k, and a list without these has the others
+pub record AreSplitAtLimit : Type 0 where
+  pub first : (m : List Bool) (k : ℕ) → positions (limited m k) ≡ take k (positions m)
+  pub others : (m : List Bool) (k : ℕ) → positions (without_first m k) ≡ drop k (positions m)

@@ -1,6 +1,6 @@
 //! Laws of parts, groups and limits.
 
-ghost use Rattle.mask_bits.specs.Laws.Parts.{PartOfPart, PartOfConcat, LimitOfLimit, HasLimitCount};
+ghost use Rattle.mask_bits.specs.Laws.Parts.{PartOfPart, PartOfConcat, LimitOfLimit, HasLimitCount, HasCountWithoutFirst, AreSplitAtLimit};
 
 /// A part of a part is one part of the whole.
 #[tactic(auto, using(crate::proofs::Lists::PartLemmas::part_of_part))]
@@ -24,4 +24,16 @@ pub fn limit_of_limit()
 #[tactic(auto, using(crate::proofs::Lists::LimitLemmas::limit_count))]
 pub fn limit_count()
     ensures count { HasLimitCount }
+{}
+
+/// A list without its first true values keeps its length, and has as many true values fewer.
+#[tactic(auto, using(crate::proofs::Lists::WithoutFirstLemmas::without_first_count))]
+pub fn without_first_count()
+    ensures count { HasCountWithoutFirst }
+{}
+
+/// A limit and what leaves the first true values out part the true indices between them.
+#[tactic(auto, using(crate::proofs::Lists::WithoutFirstLemmas::split_at_limit))]
+pub fn split_at_limit()
+    ensures split { AreSplitAtLimit }
 {}
