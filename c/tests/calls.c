@@ -167,6 +167,22 @@ static void appends(const bitmap *a, const bitmap *b, room where) {
     }
 }
 
+/* The values of a bitmap at a place within marked bytes, and all other bits as they were. */
+static void writes_at(const bitmap *b, room where) {
+    size_t start, p, size = b->len / 8 + 3;
+
+    for (start = 0; start + b->len <= 8 * size; start += 3) {
+        uint8_t *out = marked(where, start % 2 ? FIRST : LAST, size), *it;
+        row_mask_write_at(out, size, start, WHOLE(b));
+        for (p = 0; p < 8 * size; p++)
+            same((size_t)(out[p / 8] >> (p % 8) & 1),
+                 p >= start && p < start + b->len ? b->list[p - start] : (size_t)(MARK >> (p % 8) & 1), "write_at");
+        for (it = where.start; it < where.end; it++)
+            if (*it != MARK && (it < out || it >= out + size))
+                same(*it, MARK, "write_at");
+    }
+}
+
 /* Word i of a bitmap, with zeros past its last value. */
 static uint64_t word_in(const bitmap *b, size_t i) {
     uint64_t word = 0;
@@ -571,6 +587,7 @@ static void nothing(void) {
     row_mask_from_indices(NULL, 0, 0, NULL, 0);
     row_mask_fill_range(NULL, 0, 0, 0, true);
     row_mask_append(NULL, 0, 0, NULL, 0, 0, 0);
+    row_mask_write_at(NULL, 0, 0, NULL, 0, 0, 0);
     same(row_mask_equal(NULL, 0, 0, NULL, 0, 0, 0), true, "equal");
     same(row_mask_is_subset(NULL, 0, 0, NULL, 0, 0, 0), true, "is_subset");
     same(row_mask_intersects(NULL, 0, 0, NULL, 0, 0, 0), false, "intersects");
@@ -623,6 +640,8 @@ int main(void) {
                 combines(&a, &b, third);
                 fill(&b, second, random_below(16), random_below(LONGEST + 1), 128);
                 appends(&a, &b, third);
+                if (share == 2)
+                    writes_at(&a, third);
                 fill(&b, second, random_below(16), len, 128);
                 chooses_bits(&a, &b, third);
                 narrows(&a, second, third, fourth);

@@ -6,13 +6,13 @@ pub use Rattle.vortex_mask.proofs.Common.{drop_more, ext_get_or, false, get_or, 
 pub use Rattle.vortex_mask.proofs.Common.{get_or_from_slice_get, get_or_past, indices_from, inl, inr, length, length-append, length-between, length-drop, length-map, length-map-range_with_len, length-replicate, length-set, length-take}
 pub use Rattle.vortex_mask.proofs.Common.{list_any, list_any-append, list_any_more, list_any_none, map, map-append, map-id, map-map, min, nat_eq, nat_tests, ne_eqb, nil_from_length, not, not_of, one_shl, option_map, or-false, or_comm}
 pub use Rattle.vortex_mask.proofs.Common.{padded_part, padded_remainder, positions, range_with_len, rank_intersection, refl, replicate, set, slice_get, slice_get-get_or, slice_range, subst, suc, sym, take, take-add, take-append-drop}
-pub use Rattle.vortex_mask.proofs.Common.{take_all, take_at, take_more, true, zero, ℕ, ◌%◌, ◌&&◌, ◌*◌, ◌++◌, ◌+◌, ◌-◌, ◌/◌, ◌<◌, ◌^◌, ◌||◌, ◌↔◌, ◌∙◌, ◌∷◌, ◌≡◌, ◌≢◌, ◌≤◌}
+pub use Rattle.vortex_mask.proofs.Common.{bit_at-lt, bit_at_and, w64, ◌⊎◌, take_all, take_at, take_more, true, zero, ℕ, ◌%◌, ◌&&◌, ◌*◌, ◌++◌, ◌+◌, ◌-◌, ◌/◌, ◌<◌, ◌^◌, ◌||◌, ◌↔◌, ◌∙◌, ◌∷◌, ◌≡◌, ◌≢◌, ◌≤◌}
 unfoldable pub use Rattle.mask_bits.proofs.Common.{chosen}
-pub use Rattle.mask_bits.proofs.Common.{IsNonDecreasing, bits_of_words, combined, cons_option, drop-put_mid, get_or-between, items_where_true, runs_from, shr_and_one, slice_get-map, take-append-le, take_rest, values_so_far}
-pub use Rattle.mask_c.specs.Bitmap.{AreClearBehind, IsFilled, IsNarrowed, IsSubset}
+pub use Rattle.mask_bits.proofs.Common.{bit_at_not, bit_at_ones_above, bit_not, IsNonDecreasing, bits_of_words, combined, cons_option, drop-put_mid, get_or-between, items_where_true, runs_from, shr_and_one, slice_get-map, take-append-le, take_rest, values_so_far}
+pub use Rattle.mask_c.specs.Bitmap.{AreClearBehind, IsFilled, IsNarrowed, IsSubset, IsWritten}
 unfoldable pub use Rattle.mask_c.specs.Strings.{sizes, strings}
 pub use Rattle.mask_c.specs.Strings.{ends_from, items_at, offsets_of}
-pub use Rattle.std.proofs.Common.{add_assoc, below_more, get_or-set_other, get_or-set_same, slice_set, rules, ◌⊎◌}
+pub use Rattle.std.proofs.Common.{add_assoc, below_more, get_or-set_other, get_or-set_same, slice_set, rules}
 pub use Rattle.std.proofs.Math.ListN.{drop_of_length-le}
 pub use Rattle.std.proofs.Math.Seq.{drop-append_seam, take-append_seam, take-suc-set}
 pub use Rattle.std.proofs.lemmas.Bool.{false≢true}

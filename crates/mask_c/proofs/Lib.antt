@@ -14,3 +14,4 @@ mod NarrowedLemmas
 mod RunLemmas
 mod ShortStringLemmas
 mod StringLemmas
+mod WriteLemmas

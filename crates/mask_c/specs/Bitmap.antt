@@ -1,5 +1,5 @@
 -- Bitmaps that C passes: what is written into their bytes, whether one has all true values of another, and the rows that one chooses.
-use Rattle.std.specs.Prelude.{ℕ, ◌*◌, ◌<◌, ◌≤◌, ◌≡◌, ◌⊎◌, ◌&&◌, Bool, true, false, List, length, slice_index_or, take}
+use Rattle.std.specs.Prelude.{ℕ, ◌+◌, ◌*◌, ◌<◌, ◌≤◌, ◌≡◌, ◌⊎◌, ◌&&◌, Bool, true, false, List, length, slice_index_or, take}
 use Rattle.std.specs.Int.{div_ceil}
 use Rattle.mask_bits.specs.Bitmap.{bitmap}
 use Rattle.mask_bits.specs.Buffer.{backing_bit, IsWithinBytes}
@@ -22,6 +22,11 @@ pub record IsFilled (old new : List ℕ) (m n : ℕ) (value : Bool) : Type 0 whe
 pub record IsNarrowed (old new : List ℕ) (m : List Bool) (n : ℕ) : Type 0 where
   pub inside : (p : ℕ) → p < n → backing_bit new p ≡ (backing_bit old p && slice_index_or m p false)
   pub outside : (p : ℕ) → n ≤ p → backing_bit new p ≡ backing_bit old p
+
+-- the n bits from position `start` on are those of `more` from position `offset` on, and all others as they were
+pub record IsWritten (old new : List ℕ) (start : ℕ) (more : List ℕ) (offset n : ℕ) : Type 0 where
+  pub inside : (i : ℕ) → i < n → backing_bit new (start + i) ≡ backing_bit more (offset + i)
+  pub outside : (p : ℕ) → ((p < start) ⊎ (start + n ≤ p)) → backing_bit new p ≡ backing_bit old p
 
 -- there is a row for each value, and room for those that are chosen
 pub record CanChoose {T : Type 0} (bytes : List ℕ) (offset len : ℕ) (rows out : List T) : Type 0 where

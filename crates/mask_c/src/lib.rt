@@ -25,3 +25,4 @@ mod strings;
 mod take;
 mod version;
 mod words;
+mod write_at;
