@@ -15,6 +15,8 @@ use core::slice;
 
 pub(crate) mod alike;
 mod choose;
+mod fold;
+mod limit;
 mod pairs;
 pub(crate) mod read;
 pub(crate) mod room;

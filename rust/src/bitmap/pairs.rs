@@ -254,16 +254,17 @@ impl Bitmap<'_> {
     /// # Errors
     /// The refusals of [`Room`].
     pub fn copy_into(self, out: &mut (impl Room + ?Sized)) -> Result<(), Error> {
-        // SAFETY: either copy writes each byte, and reads none before.
-        unsafe {
-            out.write(self.len, |out| {
-                if !self.offset.is_multiple_of(8) {
-                    return mask_c::row_mask_copy(self.bytes(), self.offset(), self.len(), out);
-                }
-                out.copy_from_slice(&self.bytes[self.offset / 8..][..out.len()]);
-                mask_c::clear_behind(out, self.len);
-            })
+        // SAFETY: it writes each byte, and reads none before.
+        unsafe { out.write(self.len, |out| self.copy_to(out)) }
+    }
+
+    // Writes each byte of the same values, to just the bytes that they take.
+    pub(super) fn copy_to(self, out: &mut [u8]) {
+        if !self.offset.is_multiple_of(8) {
+            return mask_c::row_mask_copy(self.bytes(), self.offset(), self.len(), out);
         }
+        out.copy_from_slice(&self.bytes[self.offset / 8..][..out.len()]);
+        mask_c::clear_behind(out, self.len);
     }
 
     /// The same values in bytes of their own, from bit 0 on.

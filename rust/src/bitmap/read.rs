@@ -4,7 +4,7 @@ use super::range_within;
 use super::room::{are_fit, as_items, first_of, list_of};
 use crate::memory::granted;
 use crate::proved::mask_c;
-use crate::{Bitmap, Error, Indices, Runs, Values};
+use crate::{Bitmap, Error, Indices, PaddedWords, Runs, Values};
 use alloc::vec::Vec;
 use core::mem::MaybeUninit;
 use core::ops::{Range, RangeBounds};
@@ -47,7 +47,6 @@ impl<'a> Bitmap<'a> {
     }
 
     /// The index of true value number `n`, counted from 0.
-    #[doc(alias = "limit")]
     #[must_use]
     #[inline]
     pub fn select(self, n: usize) -> Option<usize> {
@@ -124,6 +123,20 @@ impl<'a> Bitmap<'a> {
         self.has_narrow_indices()?;
         // SAFETY: each place is written, since so many values are true.
         unsafe { list_of(self.count(), |out| _ = self.narrow_indices(0, as_items(out))) }
+    }
+
+    /// The words of 64 values, read as they are asked for: bit `b` of word `w` is value `64 * w + b`. Bits past the last
+    /// value are clear.
+    ///
+    /// ```
+    /// let rows = row_mask::Bitmap::new(&[0b1101_1110], 1, 5)?;
+    /// assert!(rows.words().eq([0b0_1111]));
+    /// # Ok::<(), row_mask::Error>(())
+    /// ```
+    #[must_use]
+    #[inline]
+    pub fn words(self) -> PaddedWords<'a> {
+        self.chunks().iter_padded()
     }
 
     /// All words of 64 values, as [`next_words`](Bitmap::next_words) has them.

@@ -6,10 +6,14 @@ use crate::kit::unchecked::put_lowest;
 use crate::memory::granted;
 use crate::native::levelled;
 use crate::proved::mask_bits::and_rows::and_rows_in_place;
+use crate::proved::mask_bits::words::word_at;
 use crate::proved::mask_c;
 use crate::words::{for_each_bit, number_of};
 use crate::{Bitmap, BitmapBuf, Error};
 use core::ops::{Range, RangeBounds};
+
+// So many values are one word with those of a byte that isn't full.
+const FEW: usize = 56;
 
 impl BitmapBuf {
     /// Negates each value, in place.
@@ -25,6 +29,45 @@ impl BitmapBuf {
         let Range { start, end } = range_within(&range, self.len)?;
         mask_c::row_mask_fill_range(&mut self.bytes, start, end, value);
         Ok(())
+    }
+
+    /// Writes the values of a bitmap in the place of those from `start` on, as many as it has: a part that was changed by
+    /// itself, such as that of a page, goes back to where it was.
+    ///
+    /// ```
+    /// let mut rows = row_mask::BitmapBuf::all_true(6);
+    /// rows.write_at(2, &row_mask::BitmapBuf::all_false(3))?;
+    /// assert_eq!(rows.to_string(), "110001");
+    /// # Ok::<(), row_mask::Error>(())
+    /// ```
+    ///
+    /// # Errors
+    /// [`Error::BadRange`] where they would pass the last value.
+    #[doc(alias = "copy_from_bitslice")]
+    pub fn write_at<'a>(
+        &mut self,
+        start: usize,
+        values: impl Into<Bitmap<'a>>,
+    ) -> Result<(), Error> {
+        let values = values.into();
+        range_within(&(start..start.saturating_add(values.len())), self.len)?;
+        let (bytes, offset, len) = (values.bytes(), values.offset(), values.len());
+        mask_c::row_mask_write_at(&mut self.bytes, start, bytes, offset, len);
+        Ok(())
+    }
+
+    /// Leaves the first `k` true values true and no other, in place: [`Bitmap::limit`].
+    #[doc(alias = "limit")]
+    pub fn keep_first(&mut self, k: usize) {
+        let end = self.select(k).unwrap_or(self.len);
+        mask_c::row_mask_fill_range(&mut self.bytes, end, self.len, false);
+    }
+
+    /// Makes the first `k` true values false, in place: [`Bitmap::without_first`].
+    #[doc(alias("offset", "skip"))]
+    pub fn drop_first(&mut self, k: usize) {
+        let end = self.as_bitmap().end_of_first(k);
+        mask_c::row_mask_fill_range(&mut self.bytes, 0, end, false);
     }
 
     /// Makes value `i` true, or false.
@@ -127,14 +170,23 @@ impl BitmapBuf {
     }
 
     /// Adds a value `n` times behind the last one.
+    ///
+    /// ```
+    /// let mut rows = row_mask::BitmapBuf::all_false(2);
+    /// rows.append_n(true, 3);
+    /// assert_eq!(rows.to_string(), "00111");
+    /// ```
     pub fn append_n(&mut self, value: bool, n: usize) {
-        let (start, end) = (self.len, self.len.saturating_add(n));
         self.reserve(n);
-        self.bytes.resize(mask_c::row_mask_room(end), 0);
-        self.len = end;
-        if value {
-            mask_c::row_mask_fill_range(&mut self.bytes, start, end, true);
+        let (bit, end) = (self.len % 8, self.len.saturating_add(n));
+        let byte = if value { 0xFF } else { 0 };
+        match self.bytes.last_mut() {
+            Some(last) if bit > 0 => *last |= byte << bit,
+            _ => {}
         }
+        self.bytes.resize(mask_c::row_mask_room(end), byte);
+        self.len = end;
+        mask_c::clear_behind(&mut self.bytes, end);
     }
 
     /// Has `len` values: it forgets those from there on, or adds values that are all `value` behind the last one.
@@ -152,8 +204,28 @@ impl BitmapBuf {
     }
 
     /// Adds the values of a bitmap behind the last value.
+    #[inline]
     pub fn append<'a>(&mut self, more: impl Into<Bitmap<'a>>) {
         let more = more.into();
+        if more.len() <= FEW && self.bytes.capacity() - self.bytes.len() >= size_of::<u64>() {
+            return self.append_few(more);
+        }
+        self.append_more(more);
+    }
+
+    // Adds few values, where there is memory for a word more: with those of the byte that isn't full they are one.
+    #[inline]
+    fn append_few(&mut self, more: Bitmap<'_>) {
+        let (whole, bit) = (self.len / 8, self.len % 8);
+        let begun = self.bytes.get(whole).map_or(0, |byte| u64::from(*byte));
+        let word = word_at(more.bytes(), more.offset()) & !(u64::MAX << more.len());
+        self.len += more.len();
+        self.bytes.truncate(whole);
+        self.bytes.extend_from_slice(&(begun | word << bit).to_le_bytes());
+        self.bytes.truncate(mask_c::row_mask_room(self.len));
+    }
+
+    fn append_more(&mut self, more: Bitmap<'_>) {
         let len = self.len.saturating_add(more.len());
         self.bytes.resize(mask_c::row_mask_room(len), 0);
         mask_c::row_mask_append(&mut self.bytes, self.len, more.bytes(), more.offset(), more.len());

@@ -1,6 +1,6 @@
 //! What a bitmap answers, of its own bytes: each call is that of [`Bitmap`].
 
-use crate::{Bitmap, BitmapBuf, Error, Indices, Room, Row, Runs};
+use crate::{Bitmap, BitmapBuf, Error, Indices, PaddedWords, Room, Row, Runs};
 use alloc::vec::Vec;
 use core::ops::{Range, RangeBounds};
 
@@ -112,6 +112,13 @@ impl BitmapBuf {
     #[inline]
     pub fn to_indices_u32(&self) -> Result<Vec<u32>, Error> {
         self.as_bitmap().to_indices_u32()
+    }
+
+    /// The words of 64 values, read as they are asked for: [`Bitmap::words`].
+    #[must_use]
+    #[inline]
+    pub fn words(&self) -> PaddedWords<'_> {
+        self.as_bitmap().words()
     }
 
     /// A list of the words of 64 values: [`Bitmap::to_words`].

@@ -37,20 +37,22 @@ macro_rules! levelled {
     };
     (
         where $much:expr;
-        $visible:vis fn $call:ident $(<$row:ident>)?($($argument:ident: $type:ty),+ $(,)?) $body:block
+        $visible:vis fn $call:ident $(<$($row:ident),+>)?($($argument:ident: $type:ty),+ $(,)?)
+            $(-> $result:ty)? $body:block
     ) => {
-        $visible fn $call $(<$row>)?($($argument: $type),+) {
+        #[allow(clippy::semicolon_if_nothing_returned, reason = "some return something")]
+        $visible fn $call $(<$($row),+>)?($($argument: $type),+) $(-> $result)? {
             #[allow(clippy::inline_always, reason = "a copy is compiled for what the function around it has")]
             #[inline(always)]
-            fn any $(<$row>)?($($argument: $type),+) $body
+            fn any $(<$($row),+>)?($($argument: $type),+) $(-> $result)? $body
 
             #[cfg(target_arch = "x86_64")]
             #[target_feature(enable = "avx2,bmi1,bmi2,f16c,fma,lzcnt,movbe,popcnt")]
-            fn v3 $(<$row>)?($($argument: $type),+) {
-                any($($argument),+);
+            fn v3 $(<$($row),+>)?($($argument: $type),+) $(-> $result)? {
+                any($($argument),+)
             }
 
-            crate::native::by_level_if!($much, v3($($argument),+), any($($argument),+));
+            crate::native::by_level_if!($much, v3($($argument),+), any($($argument),+))
         }
     };
 }

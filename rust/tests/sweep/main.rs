@@ -12,6 +12,7 @@ mod refusals;
 mod selects;
 mod takes;
 mod walks;
+mod writes;
 
 use lists::{Comparisons, Generator};
 use row_mask::Bitmap;
@@ -28,6 +29,7 @@ fn one(seen: &mut Comparisons, random: &mut Generator, list: &[bool], offset: us
     selects::selects(seen, random, list, bitmap);
     makes::chooses(seen, random, list, bitmap);
     takes::takes(seen, random, list, bitmap);
+    writes::writes(seen, random, list, bitmap);
 }
 
 #[test]

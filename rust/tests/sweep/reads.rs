@@ -12,6 +12,10 @@ pub fn reads(seen: &mut Comparisons, random: &mut Generator, list: &[bool], bitm
     seen.same(bitmap.last_index(), indices.last().copied());
     seen.same(bitmap.to_indices(), indices.clone());
     words(seen, random, list, bitmap);
+    seen.same(
+        (bitmap.words().len(), bitmap.words().eq(bitmap.to_words())),
+        (len.div_ceil(64), true),
+    );
     seen.same(bitmap.iter().eq(list.iter().copied()), true);
     seen.same(bitmap.indices().eq(indices.iter().copied()), true);
     let mut walk = bitmap.indices();
