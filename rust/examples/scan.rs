@@ -1,5 +1,5 @@
-//! A scan: three predicates over nullable columns, the last over strings, each asked only of the rows
-//! that the ones before it left; then the columns of the rows that are left, one of them nullable
+//! A scan: three predicates over nullable columns, the last over strings, each of the rows that the ones
+//! before it left; then the columns of the rows that are left, one of them nullable
 //! strings. The same by plain loops gives the same rows, and the times stand beside.
 
 use row_mask::{BitmapBuf, Error, Selection, Strings};
@@ -74,7 +74,7 @@ fn by_bitmaps(columns: &Columns) -> Result<Left, Error> {
     for there in [has_price, has_amount, has_name] {
         mask.and_with(there)?;
     }
-    mask.retain(|i| large(amounts[i]));
+    mask.retain_rows(amounts, |amount| large(*amount))?;
     mask.retain(|i| named(names.get(i)));
     let selection = Selection::new(&mask);
     let (notes, has_note) = &columns.notes;

@@ -64,10 +64,10 @@ fn copied(alloc: Global, buffer: &BitBuffer) -> Result<ByteList, AllocError>
     Ok(bytes)
 }
 
-/// Leaves those of the first values of `bytes` true of whose rows a test says so, in place. The bits of `bytes` past them
-/// have no meaning.
+// Leaves those of the first values of `bytes` true of whose rows a test says so, in place. The bits of `bytes` past them
+// have no meaning.
 // rust: level if rows.len() > 128
-pub fn and_rows_in_place<T, F: Fn(&T) -> bool>(bytes: &mut [u8], rows: &[T], test: &F)
+pub(crate) fn and_rows_in_place<T, F: Fn(&T) -> bool>(bytes: &mut [u8], rows: &[T], test: &F)
     requires covered { length rows.now ≤ 8 * length bytes.old }
     requires callable { F.IsAlwaysCallable test.now }
     ensures { AreLeft (FnReturnsAt F.Fn test.now) rows.now

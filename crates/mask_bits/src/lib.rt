@@ -2,8 +2,8 @@
 #![tactic(auto)]
 
 // A hidden module serves the other crates of this repository alone. README.md lists them.
-#[doc(hidden)]
-pub mod and_rows;
+// rust: visible
+mod and_rows;
 // rust: visible
 mod bit_iterator;
 mod bitops;

@@ -100,6 +100,8 @@ fn taken_masks(name: &str, o: &mut Operands, text: &mut Text) -> Found {
         "threshold_iter" (changed m n) [n > 0, "a denominator above 0"] => changed.threshold_iter(alloc, m, n),
         "valid_counts_for_indices" (a list) => valid_counts(alloc, a, list),
         "choose" (a list) [list.len() == a.len(), "a row for each value"] => a.choose(alloc, list),
+        "and_rows" (a flags) [flags.len() == a.len(), "a row for each value"]
+            => a.and_rows(alloc, flags, |row| *row),
         "from_indices" (m list) => Mask::from_indices(alloc, m, list.iter().copied()),
         "from_excluded_indices" (m list) => Mask::from_excluded_indices(alloc, m, list.iter().copied()),
     }
@@ -167,6 +169,8 @@ fn bit_parts(name: &str, o: &mut Operands, text: &mut Text) -> Found {
 // Of two buffers, and of one by value.
 fn bit_pairs(name: &str, o: &mut Operands, text: &mut Text) -> Found {
     calls! { name, o, text, alloc, else nullable(name, o, text);
+        "bits.and_rows" (x flags) [flags.len() == x.len(), "a row for each value"]
+            => x.and_rows(alloc, flags, |row| *row),
         "bits.bitand" (x y) [x.len() == y.len(), "equal lengths"] => x.bitand(alloc, y),
         "bits.bitor" (x y) [x.len() == y.len(), "equal lengths"] => x.bitor(alloc, y),
         "bits.bitand_not" (x y) [x.len() == y.len(), "equal lengths"] => x.bitand_not(alloc, y),

@@ -2,7 +2,7 @@
 ghost use Rattle.std.specs.Borrow.{Bor};
 ghost use Rattle.std.specs.Prelude.{◌≡◌, ◌≤◌, Bool, IfOk, IfSome, List, filter, length, map, nat_lt, slice_range};
 ghost use Rattle.vortex_mask.specs.Mask.{truth};
-ghost use Rattle.mask_bits.specs.Lists.{concat};
+ghost use Rattle.mask_bits.specs.Lists.{and_of, concat};
 ghost use Rattle.mask_bits.specs.Positions.{chosen};
 
 use std::alloc::Global;
@@ -21,6 +21,14 @@ pub fn filtered(alloc: Global, rows: &[u64], low: u64) -> Result<Vec<u64>, MaskE
     ensures { IfOk result (λ v. v.items ≡ filter (nat_lt low) rows.now) }
 {
     above(alloc, rows, low)?.choose(alloc, rows)
+}
+
+/// The mask of the rows above `low` and below `high`: the second test is of the rows that the first one left.
+pub fn within(alloc: Global, rows: &[u64], low: u64, high: u64) -> Result<Mask, MaskError>
+    ensures { IfOk result (λ m. truth m
+        ≡ and_of (map (nat_lt low) rows.now) (map (λ row. nat_lt row high) rows.now)) }
+{
+    above(alloc, rows, low)?.and_rows(alloc, rows, |row| *row < high)
 }
 
 /// The rows that pass a test, whatever the rows and the test are.

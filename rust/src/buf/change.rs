@@ -123,9 +123,14 @@ impl BitmapBuf {
     ///
     /// # Errors
     /// [`Error::RowsDiffer`].
-    pub fn retain_rows<T>(&mut self, rows: &[T], is_kept: impl Fn(&T) -> bool) -> Result<(), Error> {
+    pub fn retain_rows<T>(
+        &mut self,
+        rows: &[T],
+        is_kept: impl Fn(&T) -> bool,
+    ) -> Result<(), Error> {
         Error::RowsDiffer { rows: rows.len(), len: self.len }.unless(rows.len() == self.len)?;
         and_rows_in_place(&mut self.bytes, rows, &mut { is_kept });
+        mask_c::clear_behind(&mut self.bytes, self.len);
         Ok(())
     }
 

@@ -1,7 +1,7 @@
 //! What bitmaps of their own bytes are made of, and how they are changed in place.
 
 use crate::lists::{Comparisons, Generator, indices_of, packed, runs_of};
-use row_mask::{Bitmap, BitmapBuf, Error};
+use row_mask::{BitBuffer, Bitmap, BitmapBuf, Error, Mask};
 use std::hash::{DefaultHasher, Hash, Hasher};
 
 pub fn made_of(seen: &mut Comparisons, random: &mut Generator, list: &[bool], bitmap: Bitmap<'_>) {
@@ -52,6 +52,7 @@ fn of_rows(seen: &mut Comparisons, random: &mut Generator, list: &[bool]) {
     of(seen, list, [5.0_f32, f32::NAN], |it| it.is_nan());
     of(seen, list, [i64::MAX, i64::MIN], |it| *it < 0);
     of(seen, list, [(1_u64, 2_u64), (2, 1)], |it| it.0 > it.1);
+    left_of_rows(seen, random, list);
     let keep = random.list(list.len(), 128);
     let (mut rows, mut asked) = (BitmapBuf::from(list), vec![]);
     rows.retain(|row| {
@@ -61,6 +62,43 @@ fn of_rows(seen: &mut Comparisons, random: &mut Generator, list: &[bool]) {
     let want: Vec<bool> = list.iter().zip(&keep).map(|(a, b)| *a && *b).collect();
     seen.same_list(&rows, &want);
     seen.same(asked, indices_of(list));
+}
+
+/// A predicate over rows of each size, where others are left by the list.
+fn left_of_rows(seen: &mut Comparisons, random: &mut Generator, list: &[bool]) {
+    fn of<T: Copy>(
+        seen: &mut Comparisons,
+        list: &[bool],
+        keep: &[bool],
+        [no, yes]: [T; 2],
+        is_true: impl Fn(&T) -> bool,
+    ) {
+        let rows: Vec<T> = keep.iter().map(|kept| if *kept { yes } else { no }).collect();
+        let want: Vec<bool> = list.iter().zip(keep).map(|(a, b)| *a && *b).collect();
+        let mut left = BitmapBuf::from(list);
+        seen.same(left.retain_rows(&rows, &is_true), Ok(()));
+        seen.same_list(&left, &want);
+        seen.same(left.as_bytes(), &packed(&want)[..]);
+        let mask = Mask::from(BitmapBuf::from(list));
+        seen.same(mask.and_rows(&rows, &is_true), Mask::from(left));
+        let longer =
+            BitBuffer::from_iter([true, false, true].into_iter().chain(list.iter().copied()));
+        let within = longer.slice(3..3 + list.len()).and_rows(&rows, &is_true);
+        seen.same(within.iter().collect::<Vec<bool>>(), want);
+    }
+    for share in [0, 10, 128, 240, 256] {
+        let keep = random.list(list.len(), share);
+        of(seen, list, &keep, [5_u8, 3], |it| *it < 4);
+        of(seen, list, &keep, [5_i16, -3], |it| *it < 4);
+        of(seen, list, &keep, [5.0_f32, f32::NAN], |it| it.is_nan());
+        of(seen, list, &keep, [i64::MAX, i64::MIN], |it| *it < 0);
+        of(seen, list, &keep, ["a string", "another one"], |it| it.contains("other"));
+    }
+    let mut left = BitmapBuf::from(list);
+    let (rows, len) = (list.len() + 1, list.len());
+    let refused = left.retain_rows(&vec![0_u8; rows], |_| false);
+    seen.same(refused, Err(Error::RowsDiffer { rows, len }));
+    seen.same_list(&left, list);
 }
 
 /// Values that are added, set and taken off one by one.
