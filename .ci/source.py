@@ -250,7 +250,7 @@ def edit_files(crate):
 
 def edited_as(name):
     """What the names of a function's edits may begin with: its own, with its type or module or without. Of an export to
-    C they may leave out how all names begin, and the size of a row.
+    C they may leave out how all names begin, and the sizes of a row and of an index.
 
     >>> sorted(edited_as("BitBuffer::len"))
     ['bit_buffer_len', 'len']
@@ -258,7 +258,7 @@ def edited_as(name):
     ['row_mask_take_8', 'take', 'take_row_mask_take', 'take_row_mask_take_8']
     """
     names = {name.split("::")[1], name.replace("::", "_")}
-    names |= {re.sub(r"_\d+$", "", it.removeprefix("row_mask_")) for it in names}
+    names |= {re.sub(r"(_\d+)?(_by_\d+)?$", "", it.removeprefix("row_mask_")) for it in names}
     return {re.sub(r"(?<=[a-z])(?=[A-Z])", "_", it).lower() for it in names}
 
 

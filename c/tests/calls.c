@@ -92,6 +92,22 @@ static void walks(const bitmap *b, room out_room) {
         }
 }
 
+static void walks_4(const bitmap *b, room out_room) {
+    size_t sizes[] = {0, 1, 9, 64, 300}, i, from, room, found;
+
+    for (i = 0; i < sizeof sizes / sizeof *sizes; i++)
+        for (from = 0; from <= b->len; from += 1 + b->len / 3) {
+            uint32_t *out = (uint32_t *)(void *)marked(out_room, from % 2 ? FIRST : LAST, sizes[i] * sizeof *out);
+            size_t at = from;
+            found = row_mask_next_indices_4(WHOLE(b), from, out, sizes[i]);
+            for (room = 0; room < found; room++) {
+                at = next_in(b, at, true);
+                same(out[room], at++, "next_indices_4");
+            }
+            same(found == sizes[i] || next_in(b, at, true) == b->len, true, "next_indices_4");
+        }
+}
+
 static void walks_runs(const bitmap *b, room out_room) {
     size_t sizes[] = {0, 1, 9, 64, 200}, i, from, room, found;
 
@@ -322,18 +338,38 @@ static void asks_once(size_t len, room where) {
 }
 
 /* The bitmap of its own indices, backwards and the first of them twice. */
-static void from_indices(const bitmap *b, room indices_room, room where) {
-    size_t i, count = count_to(b, b->len), many = count + (count > 0);
-    size_t *indices = (size_t *)(void *)indices_room.end - many, at = 0;
-    int place;
+#define FROM_INDICES(name, index, call)                                             \
+    static void name(const bitmap *b, room indices_room, room where) {              \
+        size_t i, count = count_to(b, b->len), many = count + (count > 0), at = 0;  \
+        index *indices = (index *)(void *)indices_room.end - many;                  \
+        int place;                                                                  \
+        if (count > 0)                                                              \
+            indices[at++] = (index)next_in(b, 0, true);                             \
+        for (i = b->len; i-- > 0;)                                                  \
+            if (b->list[i])                                                         \
+                indices[at++] = (index)i;                                           \
+        WRITES(where, b->len, b->list, call, indices, many, b->len)                 \
+    }
 
-    if (count > 0)
-        indices[at++] = next_in(b, 0, true);
-    for (i = b->len; i-- > 0;)
-        if (b->list[i])
-            indices[at++] = i;
-    WRITES(where, b->len, b->list, row_mask_from_indices, indices, many, b->len)
-}
+FROM_INDICES(from_indices, size_t, row_mask_from_indices)
+FROM_INDICES(from_indices_4, uint32_t, row_mask_from_indices_4)
+
+/* The values at indices that go back and forth. */
+#define TAKES_BITS(name, index, call)                                               \
+    static void name(const bitmap *b, room indices_room, room where) {              \
+        size_t i, many = b->len ? b->len / 2 + 3 : 0;                               \
+        index *indices = (index *)(void *)indices_room.end - many;                  \
+        bool want[512];                                                             \
+        int place;                                                                  \
+        for (i = 0; i < many; i++) {                                                \
+            indices[i] = (index)random_below(b->len);                               \
+            want[i] = b->list[indices[i]];                                          \
+        }                                                                           \
+        WRITES(where, many, want, call, WHOLE(b), indices, many)                    \
+    }
+
+TAKES_BITS(take_bits, size_t, row_mask_take_bits)
+TAKES_BITS(take_bits_by_4, uint32_t, row_mask_take_bits_by_4)
 
 /* A range of bits of one value, and all others as they were. */
 static void fills(room where, size_t size) {
@@ -469,17 +505,17 @@ CHOOSES(choose_8, uint64_t, row_mask_choose_8)
 CHOOSES(choose_16, row_mask_16, row_mask_choose_16)
 
 /* Rows at indices that go back and forth, and what is behind them as it was. */
-#define TAKES(name, type, call)                                                     \
+#define TAKES(name, type, index, call)                                              \
     static void name(size_t len, room indices_room, room rows_room, room out_room) { \
         size_t i, many = len ? len / 2 + 3 : 0;                                     \
-        size_t *indices = (size_t *)(void *)indices_room.end - many;                \
+        index *indices = (index *)(void *)indices_room.end - many;                  \
         type *rows = (type *)(void *)rows_room.end - len, mark;                     \
         int place;                                                                  \
         memset(&mark, MARK, sizeof mark);                                           \
         for (i = 0; i < len; i++)                                                   \
             memset(&rows[i], (int)i, sizeof rows[i]);                               \
         for (i = 0; i < many; i++)                                                  \
-            indices[i] = random_below(len);                                         \
+            indices[i] = (index)random_below(len);                                  \
         for (place = FIRST; place <= LAST; place++) {                               \
             type *out = (type *)(void *)marked(out_room, place, (many + 1) * sizeof *out); \
             call(indices, many, rows, len, out, many + 1);                          \
@@ -489,11 +525,16 @@ CHOOSES(choose_16, row_mask_16, row_mask_choose_16)
         }                                                                           \
     }
 
-TAKES(take_1, uint8_t, row_mask_take_1)
-TAKES(take_2, uint16_t, row_mask_take_2)
-TAKES(take_4, uint32_t, row_mask_take_4)
-TAKES(take_8, uint64_t, row_mask_take_8)
-TAKES(take_16, row_mask_16, row_mask_take_16)
+TAKES(take_1, uint8_t, size_t, row_mask_take_1)
+TAKES(take_2, uint16_t, size_t, row_mask_take_2)
+TAKES(take_4, uint32_t, size_t, row_mask_take_4)
+TAKES(take_8, uint64_t, size_t, row_mask_take_8)
+TAKES(take_16, row_mask_16, size_t, row_mask_take_16)
+TAKES(take_1_by_4, uint8_t, uint32_t, row_mask_take_1_by_4)
+TAKES(take_2_by_4, uint16_t, uint32_t, row_mask_take_2_by_4)
+TAKES(take_4_by_4, uint32_t, uint32_t, row_mask_take_4_by_4)
+TAKES(take_8_by_4, uint64_t, uint32_t, row_mask_take_8_by_4)
+TAKES(take_16_by_4, row_mask_16, uint32_t, row_mask_take_16_by_4)
 
 /* Strings of few bytes that tell their index, at true values and at indices that go back and forth. The longest are of
    1 to 40 bytes, by the call, as far as all fit a page. */
@@ -564,6 +605,7 @@ static void nothing(void) {
     same(row_mask_next_index(NULL, 0, 0, 0, 0), 0, "next_index");
     same(row_mask_last_index(NULL, 0, 0, 0), 0, "last_index");
     same(row_mask_next_indices(NULL, 0, 0, 0, 0, NULL, 0), 0, "next_indices");
+    same(row_mask_next_indices_4(NULL, 0, 0, 0, 0, NULL, 0), 0, "next_indices_4");
     same(row_mask_next_runs(NULL, 0, 0, 0, 0, NULL, 0), 0, "next_runs");
     same(run.start + run.end, 0, "next_run");
     row_mask_and(NULL, 0, 0, NULL, 0, 0, 0, NULL, 0);
@@ -585,6 +627,9 @@ static void nothing(void) {
     ROW_MASK_FROM_ROWS(NULL, 0, row, true);
     ROW_MASK_RETAIN_ROWS(NULL, 0, row, true);
     row_mask_from_indices(NULL, 0, 0, NULL, 0);
+    row_mask_from_indices_4(NULL, 0, 0, NULL, 0);
+    row_mask_take_bits(NULL, 0, 0, 0, NULL, 0, NULL, 0);
+    row_mask_take_bits_by_4(NULL, 0, 0, 0, NULL, 0, NULL, 0);
     row_mask_fill_range(NULL, 0, 0, 0, true);
     row_mask_append(NULL, 0, 0, NULL, 0, 0, 0);
     row_mask_write_at(NULL, 0, 0, NULL, 0, 0, 0);
@@ -605,10 +650,15 @@ static void nothing(void) {
     same(row_mask_choose_8(NULL, 0, 0, 0, NULL, 0, NULL, 0), 0, "choose_8");
     same(row_mask_choose_16(NULL, 0, 0, 0, NULL, 0, NULL, 0), 0, "choose_16");
     row_mask_take_1(NULL, 0, NULL, 0, NULL, 0);
+    row_mask_take_1_by_4(NULL, 0, NULL, 0, NULL, 0);
     row_mask_take_2(NULL, 0, NULL, 0, NULL, 0);
+    row_mask_take_2_by_4(NULL, 0, NULL, 0, NULL, 0);
     row_mask_take_4(NULL, 0, NULL, 0, NULL, 0);
+    row_mask_take_4_by_4(NULL, 0, NULL, 0, NULL, 0);
     row_mask_take_8(NULL, 0, NULL, 0, NULL, 0);
+    row_mask_take_8_by_4(NULL, 0, NULL, 0, NULL, 0);
     row_mask_take_16(NULL, 0, NULL, 0, NULL, 0);
+    row_mask_take_16_by_4(NULL, 0, NULL, 0, NULL, 0);
     same(row_mask_choose_bytes_4(NULL, 0, 0, 0, &no_offset_4, 1, NULL, 0, NULL, 0), 0, "choose_bytes_4");
     same(row_mask_choose_bytes_8(NULL, 0, 0, 0, &no_offset_8, 1, NULL, 0, NULL, 0), 0, "choose_bytes_8");
     same(row_mask_take_bytes_4(NULL, 0, &no_offset_4, 1, NULL, 0, NULL, 0), 0, "take_bytes_4");
@@ -631,10 +681,14 @@ int main(void) {
                 reads(&a);
                 counts(&a, third, fourth);
                 walks(&a, third);
+                walks_4(&a, third);
                 walks_runs(&a, third);
                 words(&a, third);
                 from_bools(&a, second, third);
                 from_indices(&a, second, third);
+                from_indices_4(&a, second, third);
+                take_bits(&a, second, third);
+                take_bits_by_4(&a, second, third);
                 fill(&b, second, random_below(16), len, 128);
                 and_bools(&a, &b, third, fourth);
                 combines(&a, &b, third);
@@ -671,10 +725,15 @@ int main(void) {
     for (len = 0; len <= LONGEST; len += 1 + len / 8) {
         fills(first, len / 8);
         take_1(len, first, second, third);
+        take_1_by_4(len, first, second, third);
         take_2(len, first, second, third);
+        take_2_by_4(len, first, second, third);
         take_4(len, first, second, third);
+        take_4_by_4(len, first, second, third);
         take_8(len, first, second, third);
+        take_8_by_4(len, first, second, third);
         take_16(len, first, second, third);
+        take_16_by_4(len, first, second, third);
     }
     printf("%zu comparisons\n", compared);
     return 0;

@@ -1,6 +1,6 @@
 -- The places of started words, and rows at one more index.
-use Rattle.mask_c.proofs.Common.{◌≡◌, ℕ, ◌+◌, ◌*◌, ◌<◌, ◌≤◌, Bool, List, [], ◌∷◌, ◌++◌, length, get_or, set, take, drop, map, slice_get, Some, sym, subst, ap, ◌∙◌, add-zero, arith, All, length-drop, length-take, drop-drop, drop-set-lt, take_all, take_more_set, All-weaker, indices_from, positions, padded_part, word_bits, items_at, length-padded_part, positions-within, indices_from-moved, places-word_more, part-same, places-same}
-use Rattle.mask_c.proofs.StringLemmas.{items_at-more}
+use Rattle.mask_c.proofs.Common.{◌≡◌, ℕ, ◌+◌, ◌*◌, ◌<◌, ◌≤◌, Bool, List, [], ◌∷◌, ◌++◌, length, get_or, set, take, drop, map, slice_get, Option, Some, cons_option, filter_map-append, sym, subst, ap, ◌∙◌, add-zero, arith, All, length-drop, length-take, drop-drop, drop-set-lt, take_all, take_more, take_more_set, All-weaker, indices_from, positions, padded_part, word_bits, items_at, length-padded_part, positions-within, indices_from-moved, places-word_more, part-same, places-same}
+use Rattle.std.specs.List.{filter_map}
 
 -- a started part has the places of its values
 indices-part : (m : List Bool) (i n : ℕ) → indices_from n (take 64 (drop (64 * i) m)) ≡ indices_from n (padded_part m i)
@@ -24,12 +24,15 @@ part-within rows part m i w len is shows =
     subst (All (λ p. p < length part)) (indices-part m i 0 ∙ sym (ap positions shows))
     (All-weaker (λ p. p < length here) (λ p. p < length part) (λ p h. omega arith) (positions here) (positions-within here))
 
--- the rows at one more index
-pub rows_at-more : {X : Type 0} (rows : List X) (ps : List ℕ) (out : List X) (k : ℕ) (row : X) → k < length ps → k < length out
-    → take k out ≡ items_at rows (take k ps) → slice_get rows (get_or ps k 0) ≡ Some row
-    → take (k + 1) (set out k row) ≡ items_at rows (take (k + 1) ps)
-rows_at-more {X} rows ps out k row few room so_far read =
-    take_more_set out k row room ∙ ap (λ (xs : List X). xs ++ row ∷ []) so_far ∙ sym (items_at-more rows ps k row few read)
+-- what is made of one more index
+pub rows_at-more : {N X : Type 0} (f : N → Option X) (ps : List N) (out : List X) (k : ℕ) (p : N) (row : X) → k < length ps → get_or ps k p ≡ p → k < length out
+    → take k out ≡ filter_map f (take k ps) → f p ≡ Some row → take (k + 1) (set out k row) ≡ filter_map f (take (k + 1) ps)
+rows_at-more {N} {X} f ps out k p row few here room so_far read =
+    take_more_set out k row room
+    ∙ ap (λ (xs : List X). xs ++ row ∷ []) so_far
+    ∙ sym (ap (filter_map f) (take_more ps k p few ∙ ap (λ (x : N). take k ps ++ x ∷ []) here)
+    ∙ filter_map-append f (take k ps) (p ∷ [])
+    ∙ ap (λ o. filter_map f (take k ps) ++ cons_option o []) read)
 
 -- and what is behind it stays as it was
 pub behind-more : {X : Type 0} (xs old : List X) (k n : ℕ) (x : X) → n ≡ k + 1 → drop k xs ≡ drop k old → drop n (set xs k x) ≡ drop n old

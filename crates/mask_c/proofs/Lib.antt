@@ -15,3 +15,8 @@ mod RunLemmas
 mod ShortStringLemmas
 mod StringLemmas
 mod WriteLemmas
+mod NarrowLemmas
+mod RunLemmas
+mod ShortStringLemmas
+mod StringLemmas
+mod TakeBitsLemmas

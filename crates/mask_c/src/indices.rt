@@ -9,7 +9,8 @@ ghost use Rattle.mask_bits.specs.Words.{bits_of_words, started_words};
 use mask_bits::BitChunks;
 use mask_bits::blocks::{SPARE, block, ones_in, push_block};
 use mask_bits::room::{Lent, Room};
-use mask_bits::unchecked::put_indices;
+use mask_bits::row_index::RowIndex;
+use mask_bits::word_indices::put_indices;
 
 /// The index of true value number `n`, counted from 0, and `len` where there is none.
 #[unsafe(no_mangle)]
@@ -47,6 +48,7 @@ pub extern "C" fn row_mask_last_index(bytes: &[u8], offset: usize, len: usize) -
 /// until fewer come than `out` takes. Behind them `out` may have other numbers than before.
 // rust: level
 #[unsafe(no_mangle)]
+#[tactic(auto, using(crate::proofs::StringLemmas::number_itself))]
 pub extern "C" fn row_mask_next_indices(
     bytes: &[u8],
     offset: usize,
@@ -60,13 +62,54 @@ pub extern "C" fn row_mask_next_indices(
     ensures count { result ≡ min (length out.old)
         (count (drop from (bitmap bytes.now offset len))) }
 {
+    next_indices::<false, _>(bytes, offset, len, from, out)
+}
+
+/// As `row_mask_next_indices`, and an index has 4 bytes.
+///
+/// Asks that `len` is at most 2 to the 32.
+// rust: level
+#[unsafe(no_mangle)]
+#[tactic(auto, using(crate::proofs::NarrowLemmas::indices_of_4_bytes))]
+pub extern "C" fn row_mask_next_indices_4(
+    bytes: &[u8],
+    offset: usize,
+    len: usize,
+    from: usize,
+    out: &mut [u32],
+) -> usize
+    requires bitmap { IsWithinBytes bytes.now offset len }
+    requires fits { len ≤ 2 ^ 32 }
+    ensures indices { take result out.new ≡ take (length out.old)
+        (indices_from from (drop from (bitmap bytes.now offset len))) }
+    ensures count { result ≡ min (length out.old)
+        (count (drop from (bitmap bytes.now offset len))) }
+{
+    next_indices::<true, _>(bytes, offset, len, from, out)
+}
+
+// The indices from `from` on, of blocks with many byte by byte if `BYTES`: that pays where eight fill one vector.
+#[inline(always)]
+fn next_indices<const BYTES: bool, N: RowIndex>(
+    bytes: &[u8],
+    offset: usize,
+    len: usize,
+    from: usize,
+    out: &mut [N],
+) -> usize
+    requires { IsWithinBytes bytes.now offset len }
+    ensures indices { take result out.new ≡ take (length out.old)
+        (map N.index_of (indices_from from (drop from (bitmap bytes.now offset len)))) }
+    ensures count { result ≡ min (length out.old)
+        (count (drop from (bitmap bytes.now offset len))) }
+{
     if from > len {
         return 0;
     }
     // by blocks as long as there is room to spare, and then word by word
     let chunks = BitChunks::new(bytes, offset + from, len - from);
     let mut room = Lent { out, at: 0 };
-    let first = indices_of_blocks(&chunks, from, &mut room);
+    let first = indices_of_blocks::<BYTES, _, _>(&chunks, from, &mut room);
     let mut at = room.at;
     for i in first..chunks.started_words() {
         at = put_indices(chunks.started_word(i), from + 64 * i, out, at);
@@ -83,12 +126,16 @@ const LEAST_ROOM: usize = 64 + SPARE;
 // Puts those of the first blocks of four words, as many as there is room for, where the first value has the
 // index `from`. Answers the number of the first word behind them.
 #[inline(always)]
-fn indices_of_blocks<R: Room<usize>>(chunks: &BitChunks, from: usize, out: &mut R) -> usize
+fn indices_of_blocks<const BYTES: bool, N: RowIndex, R: Room<N>>(
+    chunks: &BitChunks,
+    from: usize,
+    out: &mut R,
+) -> usize
     requires fits { from + length chunks.now < 2 ^ 64 }
     requires empty { R.items out.old ≡ [] }
     ensures words { 64 * result ≤ length chunks.now }
     ensures indices { R.items out.new
-        ≡ map (λ p. from + p) (positions (take (64 * result) chunks.now)) }
+        ≡ map (λ p. N.index_of (from + p)) (positions (take (64 * result) chunks.now)) }
     ensures kept { R.kept out.new ≡ R.kept out.old }
 {
     let blocks = chunks.len() / 4;
@@ -102,7 +149,7 @@ fn indices_of_blocks<R: Room<usize>>(chunks: &BitChunks, from: usize, out: &mut 
         if out.spare() < ones + SPARE {
             return 4 * i;
         }
-        put_block(out, from + 256 * i, &words, ones);
+        put_block::<BYTES, _, _>(out, from + 256 * i, &words, ones);
     }
     4 * blocks
 }
@@ -110,15 +157,20 @@ fn indices_of_blocks<R: Room<usize>>(chunks: &BitChunks, from: usize, out: &mut 
 // Puts those of a block, of whose bits `ones` are set. It is a function of its own, since a loop that goes on
 // to its next turn from two places is compiled as two, and takes longer.
 #[inline(always)]
-fn put_block<R: Room<usize>>(out: &mut R, first: usize, words: &[u64; 4], ones: usize)
+fn put_block<const BYTES: bool, N: RowIndex, R: Room<N>>(
+    out: &mut R,
+    first: usize,
+    words: &[u64; 4],
+    ones: usize,
+)
     requires counted { ones ≡ count (bits_of_words words.now) }
     requires room { length (R.items out.old) + ones ≤ R.capacity (R.kept out.old) }
     requires fits { first + 256 < 2 ^ 64 }
-    ensures items { R.items out.new ≡ R.items out.old ++ indices_from first (bits_of_words words.now) }
+    ensures items { R.items out.new ≡ R.items out.old ++ map N.index_of (indices_from first (bits_of_words words.now)) }
     ensures kept { R.kept out.new ≡ R.kept out.old }
 {
     if ones != 0 {
-        push_block::<false, _>(out, first, words);
+        push_block::<BYTES, _, _>(out, first, words);
     }
 }
 

@@ -23,6 +23,7 @@ mod runs;
 mod short_strings;
 mod strings;
 mod take;
+mod take_bits;
 mod version;
 mod words;
 mod write_at;

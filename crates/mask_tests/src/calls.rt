@@ -103,6 +103,7 @@ fn taken_masks(name: &str, o: &mut Operands, text: &mut Text) -> Found {
         "and_rows" (a flags) [flags.len() == a.len(), "a row for each value"]
             => a.and_rows(alloc, flags, |row| *row),
         "from_indices" (m list) => Mask::from_indices(alloc, m, list.iter().copied()),
+        "from_unsorted_indices" (m list) => Mask::from_unsorted_indices(alloc, m, list.iter().copied()),
         "from_excluded_indices" (m list) => Mask::from_excluded_indices(alloc, m, list.iter().copied()),
     }
 }

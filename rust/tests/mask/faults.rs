@@ -24,6 +24,7 @@ fn are_told_behind_any_number() {
             let past = IndexOutOfBounds { index, len };
             refused(Mask::try_from_indices(len, and(index)), past);
             refused(Mask::try_from_excluded_indices(len, and(index)), past);
+            refused(Mask::try_from_unsorted_indices(len, and(index)), past);
             refused(Mask::try_from_intersection_indices(len, and(index), and(index)), past);
         }
     }

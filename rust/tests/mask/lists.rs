@@ -40,6 +40,8 @@ pub fn masks(list: &[bool]) -> Vec<Mask> {
     masks.push(Mask::try_from_indices(len, indices()).unwrap());
     masks.push(Mask::try_from_slices(len, indices().map(|i| (i, i + 1)).collect()).unwrap());
     masks.push(Mask::try_from_excluded_indices(len, (0..len).filter(|i| !list[*i])).unwrap());
+    let backwards = (0..len).rev().filter(|i| list[*i]);
+    masks.push(Mask::try_from_unsorted_indices(len, backwards.clone().chain(backwards)).unwrap());
     let cached = Mask::try_from_bools(list.iter().copied()).unwrap();
     cached.try_indices().unwrap();
     masks.push(cached.try_clone().unwrap());

@@ -21,6 +21,10 @@ fn makers_are_as_those_that_may_refuse() {
             Mask::from_excluded_indices(len, indices()),
             Mask::try_from_excluded_indices(len, indices()),
         );
+        same(
+            Mask::from_unsorted_indices(len, indices()),
+            Mask::try_from_unsorted_indices(len, indices()),
+        );
         same(Mask::from_slices(len, runs.clone()), Mask::try_from_slices(len, runs.clone()));
         let with_slices = Mask::from_buffer_with_slices(buffer(), runs.clone());
         same(with_slices, Mask::try_from_buffer_with_slices(buffer(), runs));
@@ -165,6 +169,10 @@ fn what_is_wrong_is_said() {
         (
             || drop(Mask::from_indices(5, [5])),
             "row_mask: `from_indices`: index 5 is not below the length 5",
+        ),
+        (
+            || drop(Mask::from_unsorted_indices(5, [2, 5])),
+            "row_mask: `from_unsorted_indices`: index 5 is not below the length 5",
         ),
         (
             || drop(Mask::from_excluded_indices(5, [5])),

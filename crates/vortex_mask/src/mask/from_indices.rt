@@ -165,15 +165,15 @@ fn include<I: Iterator<Item = usize>>(
     ensures { (xs : List ℕ) × Drains I.next_gives indices xs
         × (values.new ≡ true_at len xs) × (result ≡ first_past len xs) }
 {
-    let mut past_end = None;
+    let mut outside = None;
     for index in indices {
         if index < len {
             values.set(index);
         } else {
-            past_end = past_end.or(Some(index));
+            outside = outside.or(Some(index));
         }
     }
-    past_end
+    outside
 }
 
 /// Masks of false indices.

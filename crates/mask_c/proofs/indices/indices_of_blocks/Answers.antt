@@ -8,6 +8,6 @@ loop-i-preserved g c =
     let i = c.loop-i.i in
     let within : 256 * i + 256 ≤ length m = omega (arith, c.loop-i-test.true, c.len-blocks.ensures) in
     record {
-      indices = block_done m (bits_of_words c.block-words.result) c.args.from i _ _ within c.block-words.ensures c.loop-i.invariant.indices c.put_block.ensures.items;
+      indices = block_done g.N.RowIndex.index_of m (bits_of_words c.block-words.result) c.args.from i _ _ within c.block-words.ensures c.loop-i.invariant.indices c.put_block.ensures.items;
       kept = c.put_block.ensures.kept ∙ c.loop-i.invariant.kept;
     }

@@ -1,27 +1,19 @@
-use Rattle.mask_c.proofs.Common.{◌<◌, ◌+◌, Some, drop, length, get_or, sym, ap, ◌∙◌, arith, drop-drop, drop-set-lt, take_all, All-get_or, slice_get-get_or, items_at}
-use Rattle.mask_c.proofs.ChooseLemmas.{rows_at-more}
+use Rattle.mask_c.proofs.Common.{◌≡◌, ◌<◌, ◌+◌, Option, Some, drop, get_or, length, slice_get, take, refl, sym, ap, ◌∙◌, arith}
+use Rattle.mask_c.proofs.ChooseLemmas.{behind-more, rows_at-more}
 use Rattle.mask_c.proofs.take.rows_at.Goals as goal
-
-pub bounds-rows-indices : goal.bounds-rows-indices
-bounds-rows-indices g c = All-get_or (λ i. i < length c.args.rows.now) c.args.indices.now c.loop-k.k 0 (omega arith) c.requires.within
-
-pub offset_bounds-rows-indices : goal.offset_bounds-rows-indices
-offset_bounds-rows-indices g c = omega (arith, bounds-rows-indices g c)
 
 pub loop-k-preserved : goal.loop-k-preserved
 loop-k-preserved g c =
     let k = c.loop-k.k in
     let rows = c.args.rows.now in
-    let index = get_or c.args.indices.now k 0 in
-    let row = c.index-rows-indices.result in
-    let within = All-get_or (λ i. i < length rows) c.args.indices.now k 0 (omega arith) c.requires.within in
-    let read = slice_get-get_or rows index row within ∙ ap Some (sym c.index-rows-indices.is) in
+    let indices = c.args.indices.now in
+    let index = c.index-indices-k.result in
+    let row = c.item.result in
+    let few : k < length indices = omega (arith, c.loop-k-test.true) in
+    let room : k < length c.loop-k.out = omega (arith, few, c.loop-k.auto.out, c.requires.room) in
+    let read : slice_get rows (g.N.RowIndex.number index) ≡ Some row = ap (slice_get rows) (sym c.get.ensures) ∙ c.item.ensures in
+    let f : g.row.N.Denot → Option g.row.T.Denot = λ i. slice_get rows (g.N.RowIndex.number i) in
     record {
-      rows = rows_at-more rows c.args.indices.now c.loop-k.out k row (omega arith) (omega (arith, c.loop-k.auto.out, c.requires.room)) c.loop-k.invariant.rows read;
-      behind =
-          drop-set-lt (k + 1) c.loop-k.out k row (omega arith)
-          ∙ sym (drop-drop 1 k c.loop-k.out) ∙ ap (drop 1) c.loop-k.invariant.behind ∙ drop-drop 1 k c.args.out.now;
+      rows = ap (take (k + 1)) c.put.ensures ∙ rows_at-more f indices c.loop-k.out k index row few (sym c.index-indices-k.is) room c.loop-k.invariant.rows read;
+      behind = ap (drop (k + 1)) c.put.ensures ∙ behind-more c.loop-k.out c.args.out.now k (k + 1) row refl c.loop-k.invariant.behind;
     }
-
-pub returns-clause-rows : goal.returns-clause-rows
-returns-clause-rows g c = grind (arith, items_at, take_all)

@@ -31,5 +31,5 @@ loop-index-preserved g c =
     let past : n ≤ x = omega (arith, c.if-index-len.false) in
     record {
       list = c.loop-index.invariant.list ∙ with-past n x xs past;
-      past = c.or-past_end.ensures ∙ ap (λ o. option_or o (Some x)) c.loop-index.invariant.past ∙ first_past-more n x xs past;
+      past = c.or-outside.ensures ∙ ap (λ o. option_or o (Some x)) c.loop-index.invariant.past ∙ first_past-more n x xs past;
     }

@@ -5,5 +5,5 @@ use Rattle.vortex_mask.proofs.mask.from_indices.include.Given as goal
 abbrev pub invariant-loop-index : goal.invariant-loop-index
 invariant-loop-index g l = record {
   list : l.values ≡ true_at l.fn.len l.yielded;
-  past : l.past_end ≡ first_past l.fn.len l.yielded;
+  past : l.outside ≡ first_past l.fn.len l.yielded;
 }
