@@ -1,7 +1,6 @@
-use Rattle.vortex_mask.proofs.Common.{◌≡◌, false, true, List, Bool, length, map, sym, subst, ap, ◌∙◌, and_of, IfOk-weaker, repeated, count-repeated_false, length-map, length-repeated, Mask}
+use Rattle.vortex_mask.proofs.Common.{◌≡◌, false, true, length, map, sym, subst, ap, ◌∙◌, and_of, IfOk-weaker, repeated, count-repeated_false, length-map, length-repeated, Mask}
 use Rattle.vortex_mask.proofs.Masks.MaskLemmas.{fitting_variant-all_false}
 use Rattle.vortex_mask.specs.Mask.{truth, variant, fitting_variant, all_false}
-use Rattle.vortex_mask.specs.declared.mask.Mask.TheVariants.{AllFalse}
 use Rattle.mask_bits.proofs.Lists.LeavesLemmas.{and_of_true, and_of_false, left_of_true, left_of_false}
 use Rattle.mask_bits.specs.Rows.{AreLeft}
 use Rattle.std.specs.Fn.{FnReturnsAt}
