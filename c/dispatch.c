@@ -4,13 +4,16 @@
 #define EACH(of) \
     of(version) of(is_within) of(room) of(value) of(words) of(count) of(count_range) \
     of(counts_below) of(and_count) of(select) of(next_index) of(last_index) of(next_indices) \
-    of(next_run) of(next_runs) of(from_bools) of(from_indices) of(and) of(or) of(and_not) of(xor) \
-    of(not) of(copy) of(and_in_place) of(or_in_place) of(and_not_in_place) of(xor_in_place) \
-    of(not_in_place) of(append) of(fill_range) of(equal) of(is_subset) of(intersects) \
-    of(intersect_by_rank) of(intersect_at_ranks) of(rank_words) of(choose_1) of(choose_2) \
-    of(choose_4) of(choose_8) of(choose_16) of(choose_bits) of(take_1) of(take_2) of(take_4) \
-    of(take_8) of(take_16) of(choose_offsets_4) of(choose_offsets_8) of(take_offsets_4) \
-    of(take_offsets_8) of(choose_bytes_4) of(choose_bytes_8) of(take_bytes_4) of(take_bytes_8)
+    of(next_indices_4) of(next_run) of(next_runs) of(from_bools) of(and_bools_in_place) \
+    of(from_indices) of(from_indices_4) of(and) of(or) of(and_not) of(or_not) of(xor) of(not) \
+    of(copy) of(and_kleene) of(or_kleene) of(and_in_place) of(or_in_place) of(and_not_in_place) \
+    of(xor_in_place) of(not_in_place) of(append) of(fill_range) of(write_at) of(equal) of(is_subset) \
+    of(intersects) of(intersect_by_rank) of(intersect_at_ranks) of(rank_words) of(choose_1) \
+    of(choose_2) of(choose_4) of(choose_8) of(choose_16) of(choose_bits) of(take_1) of(take_2) \
+    of(take_4) of(take_8) of(take_16) of(take_1_by_4) of(take_2_by_4) of(take_4_by_4) \
+    of(take_8_by_4) of(take_16_by_4) of(take_bits) of(take_bits_by_4) of(choose_offsets_4) \
+    of(choose_offsets_8) of(take_offsets_4) of(take_offsets_8) of(choose_bytes_4) of(choose_bytes_8) \
+    of(take_bytes_4) of(take_bytes_8)
 
 /* Whether the processor has x86-64-v3. It is set before `main`, and any call before that goes to x86-64-v2. */
 __attribute__((visibility("hidden"))) unsigned char row_mask_has_v3 = 0;

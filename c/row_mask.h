@@ -10,9 +10,12 @@
  * `sizeof` says. Offsets of strings are Arrow's, which are `int32_t` and `int64_t` there: none is negative,
  * so the bytes are the same.
  *
+ * Truth values that may be null are two bitmaps: their values, and their validity, which is false at each null.
+ * What the values hold there has no meaning. A validity of no bytes, which may be NULL, says that none is null.
+ *
  * What a caller owes to each function, beside what its comment asks:
  *
- * - `row_mask_is_within` holds of each bitmap that is passed.
+ * - `row_mask_is_within` holds of each bitmap that is passed, other than a validity of no bytes.
  * - Each pointer points to as many items as the next argument says, aligned as their type, and nothing
  *   else writes to them during the call. Where there are none it may be NULL.
  * - What is written overlaps nothing else that is passed.
@@ -183,6 +186,14 @@ size_t row_mask_next_indices(
     const uint8_t *bytes, size_t bytes_size, size_t offset, size_t len, size_t from,
     size_t *out, size_t out_count) ROW_MASK_LOOP(next_indices);
 
+/* As `row_mask_next_indices`, and an index has 4 bytes.
+ *
+ * Asks that `len` is at most 2 to the 32. */
+ROW_MASK_READ(1, 2) ROW_MASK_WRITE(6, 7)
+size_t row_mask_next_indices_4(
+    const uint8_t *bytes, size_t bytes_size, size_t offset, size_t len, size_t from,
+    uint32_t *out, size_t out_count) ROW_MASK_LOOP(next_indices_4);
+
 /* The first run of true values from `from` on, and the empty one at `len` where there is none, also
  * from past the end. A run that `from` is inside begins there. So a walk over all runs goes on from
  * the end of the one that it got. */
@@ -208,6 +219,15 @@ void row_mask_from_bools(
     const bool *values, size_t values_count,
     uint8_t *out, size_t out_size) ROW_MASK_LOOP(from_bools);
 
+/* Writes the values that are true in both a bitmap and a list of truth values in the place of the
+ * bitmap, `a`, which begins at bit 0 and is as long as the list.
+ *
+ * Asks that `a_size >= row_mask_room(values_count)`. */
+ROW_MASK_CHANGE(1, 2) ROW_MASK_READ(3, 4)
+void row_mask_and_bools_in_place(
+    uint8_t *a, size_t a_size,
+    const bool *values, size_t values_count) ROW_MASK_LOOP(and_bools_in_place);
+
 /* Writes the bitmap of `len` values, from bit 0 on, in which just the values at `indices` are true.
  * Indices may come in any order and more than once.
  *
@@ -216,6 +236,14 @@ ROW_MASK_READ(1, 2) ROW_MASK_WRITE(4, 5)
 void row_mask_from_indices(
     const size_t *indices, size_t indices_count, size_t len,
     uint8_t *out, size_t out_size) ROW_MASK_LOOP(from_indices);
+
+/* As `row_mask_from_indices`, and an index has 4 bytes.
+ *
+ * Asks that each index is below `len`, and that `out_size >= row_mask_room(len)`. */
+ROW_MASK_READ(1, 2) ROW_MASK_WRITE(4, 5)
+void row_mask_from_indices_4(
+    const uint32_t *indices, size_t indices_count, size_t len,
+    uint8_t *out, size_t out_size) ROW_MASK_LOOP(from_indices_4);
 
 /* Writes the values that are true in both.
  *
@@ -241,6 +269,15 @@ void row_mask_and_not(
     const uint8_t *a, size_t a_size, size_t a_offset, const uint8_t *b, size_t b_size,
     size_t b_offset, size_t len, uint8_t *out, size_t out_size) ROW_MASK_LOOP(and_not);
 
+/* Writes the values that are true in `a` or false in `b`: of values and their validity those that
+ * are true or null.
+ *
+ * Asks that `out_size >= row_mask_room(len)`. */
+ROW_MASK_READ(1, 2) ROW_MASK_READ(4, 5) ROW_MASK_WRITE(8, 9)
+void row_mask_or_not(
+    const uint8_t *a, size_t a_size, size_t a_offset, const uint8_t *b, size_t b_size,
+    size_t b_offset, size_t len, uint8_t *out, size_t out_size) ROW_MASK_LOOP(or_not);
+
 /* Writes the values that are true in one and not in the other.
  *
  * Asks that `out_size >= row_mask_room(len)`. */
@@ -264,6 +301,38 @@ ROW_MASK_READ(1, 2) ROW_MASK_WRITE(5, 6)
 void row_mask_copy(
     const uint8_t *bytes, size_t bytes_size, size_t offset, size_t len,
     uint8_t *out, size_t out_size) ROW_MASK_LOOP(copy);
+
+/* Writes SQL's `AND` of values that may be null: true where both are true, false where one is
+ * false, and else null. Where it is null, the value that is written is false.
+ *
+ * The other operations on such values are those on bitmaps. Those that are true are `row_mask_and`
+ * of the values and the validity, those that are true or null `row_mask_or_not`. `NOT` has the same
+ * validity, and its values are `row_mask_and_not` of the validity and the values.
+ *
+ * Asks that `out_size >= row_mask_room(len)` and `out_validity_size >= row_mask_room(len)`. */
+ROW_MASK_READ(1, 2) ROW_MASK_READ(4, 5) ROW_MASK_READ(7, 8) ROW_MASK_READ(10, 11)
+ROW_MASK_WRITE(14, 15) ROW_MASK_WRITE(16, 17)
+void row_mask_and_kleene(
+    const uint8_t *a, size_t a_size, size_t a_offset,
+    const uint8_t *a_validity, size_t a_validity_size, size_t a_validity_offset,
+    const uint8_t *b, size_t b_size, size_t b_offset,
+    const uint8_t *b_validity, size_t b_validity_size, size_t b_validity_offset, size_t len,
+    uint8_t *out, size_t out_size,
+    uint8_t *out_validity, size_t out_validity_size) ROW_MASK_LOOP(and_kleene);
+
+/* Writes SQL's `OR` of values that may be null: true where one is true, false where both are false,
+ * and else null. Where it is null, the value that is written is false.
+ *
+ * Asks that `out_size >= row_mask_room(len)` and `out_validity_size >= row_mask_room(len)`. */
+ROW_MASK_READ(1, 2) ROW_MASK_READ(4, 5) ROW_MASK_READ(7, 8) ROW_MASK_READ(10, 11)
+ROW_MASK_WRITE(14, 15) ROW_MASK_WRITE(16, 17)
+void row_mask_or_kleene(
+    const uint8_t *a, size_t a_size, size_t a_offset,
+    const uint8_t *a_validity, size_t a_validity_size, size_t a_validity_offset,
+    const uint8_t *b, size_t b_size, size_t b_offset,
+    const uint8_t *b_validity, size_t b_validity_size, size_t b_validity_offset, size_t len,
+    uint8_t *out, size_t out_size,
+    uint8_t *out_validity, size_t out_validity_size) ROW_MASK_LOOP(or_kleene);
 
 /* Writes the values that are true in both in the place of `a`, which begins at bit 0.
  *
@@ -322,6 +391,15 @@ void row_mask_append(
 void row_mask_fill_range(
     uint8_t *bytes, size_t bytes_size, size_t start, size_t end,
     bool value) ROW_MASK_LOOP(fill_range);
+
+/* Writes the values of `more` to the bits of `bytes` from position `start` on, and leaves all
+ * others as they were. Of a bitmap with an offset, value `i` is the bit at position `offset + i`.
+ *
+ * Asks that `start + more_len` doesn't overflow, and that `start + more_len <= 8 * bytes_size`. */
+ROW_MASK_READ(4, 5)
+void row_mask_write_at(
+    uint8_t *bytes, size_t bytes_size, size_t start, const uint8_t *more, size_t more_size,
+    size_t more_offset, size_t more_len) ROW_MASK_LOOP(write_at);
 
 /* Whether two bitmaps of one length have the same values. */
 ROW_MASK_READ(1, 2) ROW_MASK_READ(4, 5)
@@ -489,6 +567,66 @@ void row_mask_take_16(
     const size_t *indices, size_t indices_count, const row_mask_16 *rows, size_t rows_count,
     row_mask_16 *out, size_t out_count) ROW_MASK_LOOP(take_16);
 
+/* As `row_mask_take_1`, and an index has 4 bytes.
+ *
+ * Asks that each index is below `rows_count`, and that `out_count >= indices_count`. */
+ROW_MASK_READ(1, 2) ROW_MASK_READ(3, 4) ROW_MASK_WRITE(5, 6)
+void row_mask_take_1_by_4(
+    const uint32_t *indices, size_t indices_count, const uint8_t *rows, size_t rows_count,
+    uint8_t *out, size_t out_count) ROW_MASK_LOOP(take_1_by_4);
+
+/* As `row_mask_take_2`, and an index has 4 bytes.
+ *
+ * Asks that each index is below `rows_count`, and that `out_count >= indices_count`. */
+ROW_MASK_READ(1, 2) ROW_MASK_READ(3, 4) ROW_MASK_WRITE(5, 6)
+void row_mask_take_2_by_4(
+    const uint32_t *indices, size_t indices_count, const uint16_t *rows, size_t rows_count,
+    uint16_t *out, size_t out_count) ROW_MASK_LOOP(take_2_by_4);
+
+/* As `row_mask_take_4`, and an index has 4 bytes.
+ *
+ * Asks that each index is below `rows_count`, and that `out_count >= indices_count`. */
+ROW_MASK_READ(1, 2) ROW_MASK_READ(3, 4) ROW_MASK_WRITE(5, 6)
+void row_mask_take_4_by_4(
+    const uint32_t *indices, size_t indices_count, const uint32_t *rows, size_t rows_count,
+    uint32_t *out, size_t out_count) ROW_MASK_LOOP(take_4_by_4);
+
+/* As `row_mask_take_8`, and an index has 4 bytes.
+ *
+ * Asks that each index is below `rows_count`, and that `out_count >= indices_count`. */
+ROW_MASK_READ(1, 2) ROW_MASK_READ(3, 4) ROW_MASK_WRITE(5, 6)
+void row_mask_take_8_by_4(
+    const uint32_t *indices, size_t indices_count, const uint64_t *rows, size_t rows_count,
+    uint64_t *out, size_t out_count) ROW_MASK_LOOP(take_8_by_4);
+
+/* As `row_mask_take_16`, and an index has 4 bytes.
+ *
+ * Asks that each index is below `rows_count`, and that `out_count >= indices_count`. */
+ROW_MASK_READ(1, 2) ROW_MASK_READ(3, 4) ROW_MASK_WRITE(5, 6)
+void row_mask_take_16_by_4(
+    const uint32_t *indices, size_t indices_count, const row_mask_16 *rows, size_t rows_count,
+    row_mask_16 *out, size_t out_count) ROW_MASK_LOOP(take_16_by_4);
+
+/* Writes the values at `indices`, in their order, as a bitmap from bit 0 on: the validity of a
+ * column whose rows `row_mask_take_1` and its like take. Indices may come in any order and more
+ * than once.
+ *
+ * Asks that each index is below `len`, and that `out_size >= row_mask_room(indices_count)`. */
+ROW_MASK_READ(1, 2) ROW_MASK_READ(5, 6) ROW_MASK_WRITE(7, 8)
+void row_mask_take_bits(
+    const uint8_t *bytes, size_t bytes_size, size_t offset, size_t len,
+    const size_t *indices, size_t indices_count,
+    uint8_t *out, size_t out_size) ROW_MASK_LOOP(take_bits);
+
+/* As `row_mask_take_bits`, and an index has 4 bytes.
+ *
+ * Asks that each index is below `len`, and that `out_size >= row_mask_room(indices_count)`. */
+ROW_MASK_READ(1, 2) ROW_MASK_READ(5, 6) ROW_MASK_WRITE(7, 8)
+void row_mask_take_bits_by_4(
+    const uint8_t *bytes, size_t bytes_size, size_t offset, size_t len,
+    const uint32_t *indices, size_t indices_count,
+    uint8_t *out, size_t out_size) ROW_MASK_LOOP(take_bits_by_4);
+
 /* Writes the offsets of the strings at the true values to the front of `out`: 0, and then where
  * each of these ends if they stand one behind the other. Answers how many bytes they have, which is
  * the room for `row_mask_choose_bytes_4`. String `i` has the bytes from `offsets[i]` to
@@ -596,6 +734,100 @@ size_t row_mask_take_bytes_8(
     const size_t *indices, size_t indices_count, const uint64_t *offsets, size_t offsets_count,
     const uint8_t *string_bytes, size_t string_bytes_size,
     uint8_t *out, size_t out_size) ROW_MASK_LOOP(take_bytes_8);
+
+/* Bitmaps of a test of each row, by loops that are compiled into the program: the compiler makes vectors of them. The
+ * answers of up to 512 rows at once go to the proved `row_mask_from_bools` and `row_mask_and_bools_in_place`. Beside
+ * the compiler, the loops around these calls are trusted.
+ *
+ * `test` is an expression of `i`, a name that the macro declares: the index of a row, a `size_t`. It reads nothing of
+ * the bitmap, and each other argument is computed once. Tests without branches become vectors: of two columns, write
+ * `(a[i] < 3) & (b[i] > 4)`, since `&&` is a branch. */
+#if defined(__GNUC__) && !defined(__clang__) && __GNUC__ >= 8
+#define ROW_MASK_BY_FOUR _Pragma("GCC unroll 4")
+#else
+#define ROW_MASK_BY_FOUR
+#endif
+
+/* The answers of `count` rows from row `first` on. */
+#define ROW_MASK_ASK_ROWS(answers, first, count, i, test) \
+    do { \
+        size_t row_mask_at_ = 0; \
+        for (; (count) - row_mask_at_ >= 16; row_mask_at_ += 16) { \
+            ROW_MASK_BY_FOUR \
+            for (size_t row_mask_next_ = 0; row_mask_next_ < 16; row_mask_next_++) { \
+                const size_t i = (first) + row_mask_at_ + row_mask_next_; \
+                (void)i; \
+                (answers)[row_mask_at_ + row_mask_next_] = (test) ? true : false; \
+            } \
+        } \
+        for (; row_mask_at_ < (count); row_mask_at_++) { \
+            const size_t i = (first) + row_mask_at_; \
+            (void)i; \
+            (answers)[row_mask_at_] = (test) ? true : false; \
+        } \
+    } while (0)
+
+/* Whether none of `count` values is true, which are at most 64: then all answers are false. */
+static inline bool row_mask_is_none_left(const uint8_t *bytes, size_t count, bool *answers) {
+    uint64_t word = 0;
+
+    if (count == 64) {
+        memcpy(&word, bytes, sizeof word);
+        if (word == 0)
+            memset(answers, 0, 64);
+        return word == 0;
+    }
+    for (size_t i = 0; i < (count + 7) / 8; i++)
+        word |= bytes[i];
+    if (word == 0)
+        memset(answers, 0, count);
+    return word == 0;
+}
+
+/* Writes the bitmap of `len` values, from bit 0 on, whose value `i` says whether `test` is true. `out` points to at
+ * least `row_mask_room(len)` bytes. So the rows below a limit are
+ * `ROW_MASK_FROM_ROWS(out, len, i, rows[i] < limit);`. */
+#define ROW_MASK_FROM_ROWS(out, len, i, test) \
+    do { \
+        uint8_t *const row_mask_out_ = (out); \
+        const size_t row_mask_len_ = (len); \
+        bool row_mask_answers_[512]; \
+        for (size_t row_mask_first_ = 0; row_mask_first_ < row_mask_len_; row_mask_first_ += 512) { \
+            const size_t row_mask_left_ = row_mask_len_ - row_mask_first_; \
+            const size_t row_mask_count_ = row_mask_left_ < 512 ? row_mask_left_ : 512; \
+            ROW_MASK_ASK_ROWS(row_mask_answers_, row_mask_first_, row_mask_count_, i, test); \
+            row_mask_from_bools( \
+                row_mask_answers_, row_mask_count_, row_mask_out_ + row_mask_first_ / 8, (row_mask_count_ + 7) / 8); \
+        } \
+    } while (0)
+
+/* Writes the values of a bitmap that are true, and for which `test` is, in its place. It begins at bit 0 of `bytes`,
+ * which points to at least `row_mask_room(len)` bytes. Where of 64 rows none is left, `test` isn't computed, and else
+ * for all of them: also for rows that aren't left. */
+#define ROW_MASK_RETAIN_ROWS(bytes, len, i, test) \
+    do { \
+        uint8_t *const row_mask_bytes_ = (bytes); \
+        const size_t row_mask_len_ = (len); \
+        bool row_mask_answers_[512]; \
+        for (size_t row_mask_first_ = 0; row_mask_first_ < row_mask_len_; row_mask_first_ += 512) { \
+            const size_t row_mask_left_ = row_mask_len_ - row_mask_first_; \
+            const size_t row_mask_count_ = row_mask_left_ < 512 ? row_mask_left_ : 512; \
+            uint8_t *const row_mask_block_ = row_mask_bytes_ + row_mask_first_ / 8; \
+            bool row_mask_any_ = false; \
+            for (size_t row_mask_word_ = 0; row_mask_word_ < row_mask_count_; row_mask_word_ += 64) { \
+                const size_t row_mask_rest_ = row_mask_count_ - row_mask_word_; \
+                const size_t row_mask_few_ = row_mask_rest_ < 64 ? row_mask_rest_ : 64; \
+                bool *const row_mask_part_ = row_mask_answers_ + row_mask_word_; \
+                if (row_mask_is_none_left(row_mask_block_ + row_mask_word_ / 8, row_mask_few_, row_mask_part_)) \
+                    continue; \
+                row_mask_any_ = true; \
+                ROW_MASK_ASK_ROWS(row_mask_part_, row_mask_first_ + row_mask_word_, row_mask_few_, i, test); \
+            } \
+            if (row_mask_any_) \
+                row_mask_and_bools_in_place( \
+                    row_mask_block_, (row_mask_count_ + 7) / 8, row_mask_answers_, row_mask_count_); \
+        } \
+    } while (0)
 
 /* Rank intersection by the instruction `pdep` of the processor, and the values at chosen rows by `pext`,
  * compiled into the program. The words and sources are those of the proved `row_mask_rank_words`, and of

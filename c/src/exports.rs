@@ -48,6 +48,10 @@ export! {
         bytes: *const u8, bytes_size: usize, offset: usize, len: usize, from: usize,
         out: *mut usize, out_count: usize) -> usize
         = (read(bytes, bytes_size), offset, len, from, write(out, out_count));
+    row_mask_next_indices_4, row_mask_v3_next_indices_4(
+        bytes: *const u8, bytes_size: usize, offset: usize, len: usize, from: usize, out: *mut u32,
+        out_count: usize) -> usize
+        = (read(bytes, bytes_size), offset, len, from, write(out, out_count));
     row_mask_next_run, row_mask_v3_next_run(
         bytes: *const u8, bytes_size: usize, offset: usize, len: usize, from: usize) -> RowMaskRun
         = (read(bytes, bytes_size), offset, len, from);
@@ -58,9 +62,15 @@ export! {
     row_mask_from_bools, row_mask_v3_from_bools(
         values: *const bool, values_count: usize, out: *mut u8, out_size: usize) -> ()
         = (read(values, values_count), write(out, out_size));
+    row_mask_and_bools_in_place, row_mask_v3_and_bools_in_place(
+        a: *mut u8, a_size: usize, values: *const bool, values_count: usize) -> ()
+        = (write(a, a_size), read(values, values_count));
     row_mask_from_indices, row_mask_v3_from_indices(
         indices: *const usize, indices_count: usize, len: usize, out: *mut u8,
         out_size: usize) -> ()
+        = (read(indices, indices_count), len, write(out, out_size));
+    row_mask_from_indices_4, row_mask_v3_from_indices_4(
+        indices: *const u32, indices_count: usize, len: usize, out: *mut u8, out_size: usize) -> ()
         = (read(indices, indices_count), len, write(out, out_size));
     row_mask_and, row_mask_v3_and(
         a: *const u8, a_size: usize, a_offset: usize, b: *const u8, b_size: usize, b_offset: usize,
@@ -71,6 +81,10 @@ export! {
         len: usize, out: *mut u8, out_size: usize) -> ()
         = (read(a, a_size), a_offset, read(b, b_size), b_offset, len, write(out, out_size));
     row_mask_and_not, row_mask_v3_and_not(
+        a: *const u8, a_size: usize, a_offset: usize, b: *const u8, b_size: usize, b_offset: usize,
+        len: usize, out: *mut u8, out_size: usize) -> ()
+        = (read(a, a_size), a_offset, read(b, b_size), b_offset, len, write(out, out_size));
+    row_mask_or_not, row_mask_v3_or_not(
         a: *const u8, a_size: usize, a_offset: usize, b: *const u8, b_size: usize, b_offset: usize,
         len: usize, out: *mut u8, out_size: usize) -> ()
         = (read(a, a_size), a_offset, read(b, b_size), b_offset, len, write(out, out_size));
@@ -86,6 +100,24 @@ export! {
         bytes: *const u8, bytes_size: usize, offset: usize, len: usize, out: *mut u8,
         out_size: usize) -> ()
         = (read(bytes, bytes_size), offset, len, write(out, out_size));
+    row_mask_and_kleene, row_mask_v3_and_kleene(
+        a: *const u8, a_size: usize, a_offset: usize, a_validity: *const u8, a_validity_size: usize,
+        a_validity_offset: usize, b: *const u8, b_size: usize, b_offset: usize,
+        b_validity: *const u8, b_validity_size: usize, b_validity_offset: usize, len: usize,
+        out: *mut u8, out_size: usize, out_validity: *mut u8, out_validity_size: usize) -> ()
+        = (
+            read(a, a_size), a_offset, read(a_validity, a_validity_size), a_validity_offset,
+            read(b, b_size), b_offset, read(b_validity, b_validity_size), b_validity_offset, len,
+            write(out, out_size), write(out_validity, out_validity_size));
+    row_mask_or_kleene, row_mask_v3_or_kleene(
+        a: *const u8, a_size: usize, a_offset: usize, a_validity: *const u8, a_validity_size: usize,
+        a_validity_offset: usize, b: *const u8, b_size: usize, b_offset: usize,
+        b_validity: *const u8, b_validity_size: usize, b_validity_offset: usize, len: usize,
+        out: *mut u8, out_size: usize, out_validity: *mut u8, out_validity_size: usize) -> ()
+        = (
+            read(a, a_size), a_offset, read(a_validity, a_validity_size), a_validity_offset,
+            read(b, b_size), b_offset, read(b_validity, b_validity_size), b_validity_offset, len,
+            write(out, out_size), write(out_validity, out_validity_size));
     row_mask_and_in_place, row_mask_v3_and_in_place(
         a: *mut u8, a_size: usize, b: *const u8, b_size: usize, b_offset: usize, len: usize) -> ()
         = (write(a, a_size), read(b, b_size), b_offset, len);
@@ -108,6 +140,10 @@ export! {
     row_mask_fill_range, row_mask_v3_fill_range(
         bytes: *mut u8, bytes_size: usize, start: usize, end: usize, value: bool) -> ()
         = (write(bytes, bytes_size), start, end, value);
+    row_mask_write_at, row_mask_v3_write_at(
+        bytes: *mut u8, bytes_size: usize, start: usize, more: *const u8, more_size: usize,
+        more_offset: usize, more_len: usize) -> ()
+        = (write(bytes, bytes_size), start, read(more, more_size), more_offset, more_len);
     row_mask_equal, row_mask_v3_equal(
         a: *const u8, a_size: usize, a_offset: usize, b: *const u8, b_size: usize, b_offset: usize,
         len: usize) -> bool
@@ -184,6 +220,38 @@ export! {
         indices: *const usize, indices_count: usize, rows: *const RowMask16, rows_count: usize,
         out: *mut RowMask16, out_count: usize) -> ()
         = (read(indices, indices_count), read(rows, rows_count), write(out, out_count));
+    row_mask_take_1_by_4, row_mask_v3_take_1_by_4(
+        indices: *const u32, indices_count: usize, rows: *const u8, rows_count: usize, out: *mut u8,
+        out_count: usize) -> ()
+        = (read(indices, indices_count), read(rows, rows_count), write(out, out_count));
+    row_mask_take_2_by_4, row_mask_v3_take_2_by_4(
+        indices: *const u32, indices_count: usize, rows: *const u16, rows_count: usize,
+        out: *mut u16, out_count: usize) -> ()
+        = (read(indices, indices_count), read(rows, rows_count), write(out, out_count));
+    row_mask_take_4_by_4, row_mask_v3_take_4_by_4(
+        indices: *const u32, indices_count: usize, rows: *const u32, rows_count: usize,
+        out: *mut u32, out_count: usize) -> ()
+        = (read(indices, indices_count), read(rows, rows_count), write(out, out_count));
+    row_mask_take_8_by_4, row_mask_v3_take_8_by_4(
+        indices: *const u32, indices_count: usize, rows: *const u64, rows_count: usize,
+        out: *mut u64, out_count: usize) -> ()
+        = (read(indices, indices_count), read(rows, rows_count), write(out, out_count));
+    row_mask_take_16_by_4, row_mask_v3_take_16_by_4(
+        indices: *const u32, indices_count: usize, rows: *const RowMask16, rows_count: usize,
+        out: *mut RowMask16, out_count: usize) -> ()
+        = (read(indices, indices_count), read(rows, rows_count), write(out, out_count));
+    row_mask_take_bits, row_mask_v3_take_bits(
+        bytes: *const u8, bytes_size: usize, offset: usize, len: usize, indices: *const usize,
+        indices_count: usize, out: *mut u8, out_size: usize) -> ()
+        = (
+            read(bytes, bytes_size), offset, len, read(indices, indices_count),
+            write(out, out_size));
+    row_mask_take_bits_by_4, row_mask_v3_take_bits_by_4(
+        bytes: *const u8, bytes_size: usize, offset: usize, len: usize, indices: *const u32,
+        indices_count: usize, out: *mut u8, out_size: usize) -> ()
+        = (
+            read(bytes, bytes_size), offset, len, read(indices, indices_count),
+            write(out, out_size));
     row_mask_choose_offsets_4, row_mask_v3_choose_offsets_4(
         bytes: *const u8, bytes_size: usize, offset: usize, len: usize, offsets: *const u32,
         offsets_count: usize, out: *mut u32, out_count: usize) -> usize

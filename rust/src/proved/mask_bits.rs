@@ -3,6 +3,7 @@
 
 use crate::kit::prelude::*;
 // A hidden module serves the other crates of this repository alone. README.md lists them.
+pub(crate) mod and_rows;
 pub(crate) mod bit_iterator;
 mod bitops;
 #[doc(hidden)]
@@ -38,6 +39,8 @@ pub mod push_rows;
 mod read_word;
 #[doc(hidden)]
 pub mod room;
+#[doc(hidden)]
+pub mod row_index;
 mod run_words;
 mod scan;
 mod set_indices;
@@ -46,7 +49,8 @@ mod set_slices;
 pub mod small_rows;
 #[doc(hidden)]
 pub(crate) use crate::kit::unchecked;
-mod word_indices;
+#[doc(hidden)]
+pub mod word_indices;
 mod word_items;
 pub(crate) mod word_rows;
 pub mod words;

@@ -57,6 +57,7 @@ fn mask_parts(name: &str, o: &mut Operands, text: &mut Text) -> Found {
         "to_bit_buffer" (a) => a.try_to_bit_buffer(),
         "from_bools" (a) => Mask::try_from_bools(a.iter()),
         "to_limited" (a m) => a.try_to_limited(m),
+        "without_first" (a m) => a.try_without_first(m),
         "slice" (a m n) [m <= n && n <= a.len(), "a range within the mask"] => a.try_slice(m, n),
         "groups" (a n) [n > 0, "groups of some rows"] => a.try_groups(n),
     }
@@ -96,7 +97,10 @@ fn taken_masks(name: &str, o: &mut Operands, text: &mut Text) -> Found {
         "threshold_iter" (changed m n) [n > 0, "a denominator above 0"] => changed.try_threshold_iter(m, n),
         "valid_counts_for_indices" (a list) => valid_counts(a, list),
         "choose" (a list) [list.len() == a.len(), "a row for each value"] => a.try_choose(list),
+        "and_rows" (a flags) [flags.len() == a.len(), "a row for each value"]
+            => a.try_and_rows(flags, |row| *row),
         "from_indices" (m list) => Mask::try_from_indices(m, list.iter().copied()),
+        "from_unsorted_indices" (m list) => Mask::try_from_unsorted_indices(m, list.iter().copied()),
         "from_excluded_indices" (m list) => Mask::try_from_excluded_indices(m, list.iter().copied()),
     }
 }
@@ -163,6 +167,8 @@ fn bit_parts(name: &str, o: &mut Operands, text: &mut Text) -> Found {
 // Of two buffers, and of one by value.
 fn bit_pairs(name: &str, o: &mut Operands, text: &mut Text) -> Found {
     calls! { name, o, text, else nullable(name, o, text);
+        "bits.and_rows" (x flags) [flags.len() == x.len(), "a row for each value"]
+            => x.try_and_rows(flags, |row| *row),
         "bits.bitand" (x y) [x.len() == y.len(), "equal lengths"] => x.try_bitand(y),
         "bits.bitor" (x y) [x.len() == y.len(), "equal lengths"] => x.try_bitor(y),
         "bits.bitand_not" (x y) [x.len() == y.len(), "equal lengths"] => x.try_bitand_not(y),

@@ -4,6 +4,7 @@
 use crate::kit::prelude::*;
 use crate::proved::mask_bits::chunks::BitChunks;
 use crate::proved::mask_bits::room::Room;
+use crate::proved::mask_bits::row_index::RowIndex;
 use crate::proved::mask_bits::word_indices::push_indices;
 
 /// The words of block `i`.
@@ -29,22 +30,22 @@ pub const SPARE: usize = 8;
 /// Puts the indices of the set bits of a block, whose first bit has the index `base`: the more there are, the
 /// more at a time, so that few branches are guessed wrong, and where there are many byte by byte if `BYTES`.
 #[inline(always)]
-pub fn push_block<const BYTES: bool, R: Room<usize>>(
+pub fn push_block<const BYTES: bool, N: RowIndex, R: Room<N>>(
     indices: &mut R,
     base: usize,
     words: &[u64; 4],
 ) {
     let ones = ones_in(words);
     if indices.spare() < ones + SPARE {
-        push_each::<0, _>(indices, base, words);
+        push_each::<0, _, _>(indices, base, words);
     } else if ones <= 5 {
-        push_each::<2, _>(indices, base, words);
+        push_each::<2, _, _>(indices, base, words);
     } else if ones <= 15 {
-        push_each::<4, _>(indices, base, words);
+        push_each::<4, _, _>(indices, base, words);
     } else if !BYTES || ones <= 80 {
-        push_each::<8, _>(indices, base, words);
+        push_each::<8, _, _>(indices, base, words);
     } else {
-        push_each::<64, _>(indices, base, words);
+        push_each::<64, _, _>(indices, base, words);
     }
 }
 
@@ -60,8 +61,12 @@ pub fn ones_in(words: &[u64; 4]) -> usize {
 
 // Puts the indices of the set bits of each word of a block, as [`push_indices`] does.
 #[inline(always)]
-fn push_each<const K: usize, R: Room<usize>>(indices: &mut R, base: usize, words: &[u64; 4]) {
+fn push_each<const K: usize, N: RowIndex, R: Room<N>>(
+    indices: &mut R,
+    base: usize,
+    words: &[u64; 4],
+) {
     for j in 0..4 {
-        push_indices::<K, _>(indices, base + 64 * j, words[j]);
+        push_indices::<K, _, _>(indices, base + 64 * j, words[j]);
     }
 }

@@ -3,7 +3,7 @@
 
 use crate::kit::prelude::*;
 use crate::proved::mask_bits::read_word::{Anywhere, Bits, Neighbors, ReadWord, Unaligned, Whole};
-use crate::proved::mask_bits::words::{set_word, started_words};
+use crate::proved::mask_bits::words::{set_word, started_words, word_at};
 
 /// 64 values with nulls: where they are true, and where they are false.
 #[derive(Clone, Copy)]
@@ -205,6 +205,47 @@ fn combine_bits<C: KleeneOp, V: Validity, W: Validity>(
 pub struct NullableBitmap<'a> {
     pub values: (&'a [u8], usize),
     pub validity: Option<(&'a [u8], usize)>,
+}
+
+impl<'a> NullableBitmap<'a> {
+    /// The values from the one at `start` on.
+    #[inline]
+    pub fn skip(self, start: usize) -> NullableBitmap<'a> {
+        let values = (self.values.0, self.values.1 + start);
+        match self.validity {
+            Some(validity) => {
+                NullableBitmap { values, validity: Some((validity.0, validity.1 + start)) }
+            }
+            None => NullableBitmap { values, validity: None },
+        }
+    }
+
+    // The 64 values from the first on. Past the bytes they have no meaning.
+    #[inline(always)]
+    fn word(self) -> NullableWord {
+        self.word_proved()
+    }
+
+    #[inline(always)]
+    fn word_proved(self) -> NullableWord {
+        let values = word_at(self.values.0, self.values.1);
+        match self.validity {
+            Some(validity) => Present::word(values, word_at(validity.0, validity.1)),
+            None => Absent::word(values, values),
+        }
+    }
+}
+
+/// What the table of `C` has for the first `count` values of `a` and of `b`, in the lowest bits of a word:
+/// where it is true, and where it is valid. The bits above have no meaning.
+#[inline]
+pub fn combine_kleene_word<C: KleeneOp>(
+    a: NullableBitmap<'_>,
+    b: NullableBitmap<'_>,
+    count: usize,
+) -> (u64, u64) {
+    let word = C::of(a.word_proved(), b.word_proved());
+    (word.trues, word.valid())
 }
 
 /// Writes what the table of `C` has for each of the `len` values of `a` and of `b` to the front of

@@ -20,8 +20,8 @@ use crate::proved::mask_bits::words::started_words;
 /// Its calls answer as SQL does, by Kleene's tables. They are this library's own. A list that a call makes
 /// is as long as its operands, and the call is refused only where memory is missing (`AllocError`).
 pub struct NullableBitBuffer {
-    values: BitBuffer,
-    validity: Option<BitBuffer>,
+    pub(crate) values: BitBuffer,
+    pub(crate) validity: Option<BitBuffer>,
 }
 
 impl NullableBitBuffer {

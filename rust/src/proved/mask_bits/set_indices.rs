@@ -69,7 +69,7 @@ impl BitBuffer {
         let mut indices = Vec::with_room(true_count)?;
         // the whole words apart, so that none is tested for being the last
         push_whole(&mut indices, &chunks, true_count);
-        push_indices::<0, _>(&mut indices, 64 * chunks.len(), chunks.remainder_bits());
+        push_indices::<0, usize, _>(&mut indices, 64 * chunks.len(), chunks.remainder_bits());
         Ok(indices)
     }
 }
@@ -91,7 +91,7 @@ fn push_whole(indices: &mut Vec<usize>, chunks: &BitChunks<'_>, true_count: usiz
 #[inline(always)]
 fn push_in_turn(indices: &mut Vec<usize>, chunks: &BitChunks<'_>, from: usize) {
     for i in from..chunks.len() {
-        push_indices::<0, _>(indices, 64 * i, chunks.word_proved(i));
+        push_indices::<0, usize, _>(indices, 64 * i, chunks.word_proved(i));
     }
 }
 
@@ -102,7 +102,7 @@ fn push_blocks(indices: &mut Vec<usize>, chunks: &BitChunks<'_>, blocks: usize) 
     while i < blocks {
         let words = block(chunks, i);
         if has_some(&words) {
-            push_block::<true, _>(indices, 256 * i, &words);
+            push_block::<true, usize, _>(indices, 256 * i, &words);
             i += 1;
         } else {
             i = next_block(chunks, i + 1, blocks);

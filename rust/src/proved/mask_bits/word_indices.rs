@@ -2,28 +2,54 @@
 //! The indices of the set bits of a word, put into room that was made for them.
 
 use crate::kit::prelude::*;
-use crate::proved::mask_bits::byte_places::indices_of_byte;
+use crate::proved::mask_bits::byte_places::places_of;
 use crate::proved::mask_bits::room::Room;
-use crate::proved::mask_bits::word_items::{push_by, push_eight, push_one_by_one};
+use crate::proved::mask_bits::row_index::RowIndex;
+use crate::proved::mask_bits::unchecked::put;
+use crate::proved::mask_bits::word_items::{IndicesFrom, push_by, push_one_by_one};
+use ::core::marker::PhantomData;
+
+/// Writes `first` and the indices of the set bits of a word from there on behind the first `at` indices, as many as there
+/// is room for, and answers how many there are then.
+#[inline(always)]
+pub fn put_indices<N: RowIndex>(word: u64, first: usize, out: &mut [N], at: usize) -> usize {
+    if word == 0 {
+        return at;
+    }
+    let end = at + (word.count_ones() as usize).min(out.len() - at);
+    put_lowest(word, first, out, at, end);
+    end
+}
+
+// Writes the indices of its lowest set bits, up to place `end`.
+#[inline(always)]
+fn put_lowest<N: RowIndex>(word: u64, first: usize, out: &mut [N], at: usize, end: usize) {
+    let mut left = word;
+    for place in at..end {
+        put(out, place, N::of(first + left.trailing_zeros() as usize));
+        left &= left - 1;
+    }
+}
 
 /// Puts the indices of the set bits of a word whose first bit has the index `base`: `K` at a time; one after
 /// another where `K` is 0, and byte by byte where it is 64.
 #[inline(always)]
-pub(crate) fn push_indices<const K: usize, R: Room<usize>>(
+pub(crate) fn push_indices<const K: usize, N: RowIndex, R: Room<N>>(
     indices: &mut R,
     base: usize,
     word: u64,
 ) {
+    let items = IndicesFrom::<N> { base, kind: PhantomData };
     match K {
-        0 => push_one_by_one(indices, base, word),
+        0 => push_one_by_one(indices, items, word),
         64 => push_by_bytes(indices, base, word),
-        _ => push_by::<K, _, _>(indices, base, word),
+        _ => push_by::<K, _, _>(indices, items, word),
     }
 }
 
 // Puts them byte by byte, eight numbers for each and no test. It takes about as long at each word.
 #[inline(always)]
-fn push_by_bytes<R: Room<usize>>(indices: &mut R, base: usize, word: u64) {
+fn push_by_bytes<N: RowIndex, R: Room<N>>(indices: &mut R, base: usize, word: u64) {
     for j in 0..8 {
         push_byte(indices, base + 8 * j, ((word >> (8 * j)) & 0xFF) as u8);
     }
@@ -31,8 +57,8 @@ fn push_by_bytes<R: Room<usize>>(indices: &mut R, base: usize, word: u64) {
 
 // Puts those of a byte whose first bit has this index.
 #[inline(always)]
-fn push_byte<R: Room<usize>>(indices: &mut R, base: usize, byte: u8) {
+fn push_byte<N: RowIndex, R: Room<N>>(indices: &mut R, base: usize, byte: u8) {
     let before = indices.count();
-    push_eight(indices, &indices_of_byte(base, byte));
+    N::push_places(indices, base, places_of(byte));
     indices.truncate(before + byte.count_ones() as usize);
 }

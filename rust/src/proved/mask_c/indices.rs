@@ -5,7 +5,8 @@ use crate::kit::prelude::*;
 use crate::proved::mask_bits::BitChunks;
 use crate::proved::mask_bits::blocks::{SPARE, block, ones_in, push_block};
 use crate::proved::mask_bits::room::{Lent, Room};
-use crate::proved::mask_bits::unchecked::put_indices;
+use crate::proved::mask_bits::row_index::RowIndex;
+use crate::proved::mask_bits::word_indices::put_indices;
 
 /// The index of true value number `n`, counted from 0, and `len` where there is none.
 #[inline]
@@ -63,13 +64,65 @@ fn row_mask_next_indices_any(
     from: usize,
     out: &mut [usize],
 ) -> usize {
+    next_indices::<false, _>(bytes, offset, len, from, out)
+}
+
+/// As `row_mask_next_indices`, and an index has 4 bytes.
+///
+/// Asks that `len` is at most 2 to the 32.
+#[inline]
+pub fn row_mask_next_indices_4(
+    bytes: &[u8],
+    offset: usize,
+    len: usize,
+    from: usize,
+    out: &mut [u32],
+) -> usize {
+    crate::native::by_level!(
+        row_mask_next_indices_4_v3(bytes, offset, len, from, out),
+        row_mask_next_indices_4_any(bytes, offset, len, from, out)
+    )
+}
+
+#[cfg(target_arch = "x86_64")]
+#[target_feature(enable = "avx2,bmi1,bmi2,f16c,fma,lzcnt,movbe,popcnt")]
+fn row_mask_next_indices_4_v3(
+    bytes: &[u8],
+    offset: usize,
+    len: usize,
+    from: usize,
+    out: &mut [u32],
+) -> usize {
+    row_mask_next_indices_4_any(bytes, offset, len, from, out)
+}
+
+#[inline(always)]
+fn row_mask_next_indices_4_any(
+    bytes: &[u8],
+    offset: usize,
+    len: usize,
+    from: usize,
+    out: &mut [u32],
+) -> usize {
+    next_indices::<true, _>(bytes, offset, len, from, out)
+}
+
+// The indices from `from` on, of blocks with many byte by byte if `BYTES`: that pays where eight fill one vector.
+#[inline(always)]
+fn next_indices<const BYTES: bool, N: RowIndex>(
+    bytes: &[u8],
+    offset: usize,
+    len: usize,
+    from: usize,
+    out: &mut [N],
+) -> usize {
     if from > len {
         return 0;
     }
     // by blocks as long as there is room to spare, and then word by word
     let chunks = BitChunks::new_proved(bytes, offset + from, len - from);
     let mut room = Lent { out, at: 0 };
-    let first = indices_of_blocks(&chunks, from, &mut room);
+    let first = indices_of_blocks::<BYTES, _, _>(&chunks, from, &mut room);
     let mut at = room.at;
     for i in first..chunks.started_words() {
         at = put_indices(chunks.started_word_proved(i), from + 64 * i, out, at);
@@ -86,7 +139,11 @@ const LEAST_ROOM: usize = 64 + SPARE;
 // Puts those of the first blocks of four words, as many as there is room for, where the first value has the
 // index `from`. Answers the number of the first word behind them.
 #[inline(always)]
-fn indices_of_blocks<R: Room<usize>>(chunks: &BitChunks, from: usize, out: &mut R) -> usize {
+fn indices_of_blocks<const BYTES: bool, N: RowIndex, R: Room<N>>(
+    chunks: &BitChunks,
+    from: usize,
+    out: &mut R,
+) -> usize {
     let blocks = chunks.len() / 4;
     for i in 0..blocks {
         // little room is not worth the look at a block
@@ -98,7 +155,7 @@ fn indices_of_blocks<R: Room<usize>>(chunks: &BitChunks, from: usize, out: &mut 
         if out.spare() < ones + SPARE {
             return 4 * i;
         }
-        put_block(out, from + 256 * i, &words, ones);
+        put_block::<BYTES, _, _>(out, from + 256 * i, &words, ones);
     }
     4 * blocks
 }
@@ -106,9 +163,14 @@ fn indices_of_blocks<R: Room<usize>>(chunks: &BitChunks, from: usize, out: &mut 
 // Puts those of a block, of whose bits `ones` are set. It is a function of its own, since a loop that goes on
 // to its next turn from two places is compiled as two, and takes longer.
 #[inline(always)]
-fn put_block<R: Room<usize>>(out: &mut R, first: usize, words: &[u64; 4], ones: usize) {
+fn put_block<const BYTES: bool, N: RowIndex, R: Room<N>>(
+    out: &mut R,
+    first: usize,
+    words: &[u64; 4],
+    ones: usize,
+) {
     if ones != 0 {
-        push_block::<false, _>(out, first, words);
+        push_block::<BYTES, _, _>(out, first, words);
     }
 }
 

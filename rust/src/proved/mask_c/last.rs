@@ -7,7 +7,7 @@ use crate::proved::mask_bits::words::low_bits;
 
 // Writes the values of a bitmap of `len` that are behind its whole words: the lowest bits of `word`, with
 // zeros up to the end of the last byte that they take, and nothing else.
-#[inline]
+#[inline(always)]
 pub(crate) fn put_remainder(out: &mut [u8], word: u64, len: usize) {
     if len % 64 == 0 {
         return;

@@ -14,7 +14,7 @@ pub(crate) trait Offset: Copy {
 }
 
 impl Offset for u32 {
-    #[inline]
+    #[inline(always)]
     fn get(self) -> usize {
         self as usize
     }
@@ -26,7 +26,7 @@ impl Offset for u32 {
 }
 
 impl Offset for u64 {
-    #[inline]
+    #[inline(always)]
     fn get(self) -> usize {
         self as usize
     }

@@ -2,7 +2,7 @@
 //! The bitmap that an operation makes of one or two, value by value.
 
 use crate::kit::prelude::*;
-use crate::proved::mask_bits::combine::{And, AndNot, BitOp, Not, Or, Xor, combine};
+use crate::proved::mask_bits::combine::{And, AndNot, BitOp, Not, Or, OrNot, Xor, combine};
 use crate::proved::mask_bits::words::word_at;
 use crate::proved::mask_c::last::put_remainder;
 
@@ -59,6 +59,21 @@ pub fn row_mask_and_not(
     out: &mut [u8],
 ) {
     write::<AndNot>(a, a_offset, b, b_offset, len, out);
+}
+
+/// Writes the values that are true in `a` or false in `b`: of values and their validity those that are true or null.
+///
+/// Asks that `out_size >= row_mask_room(len)`.
+#[inline]
+pub fn row_mask_or_not(
+    a: &[u8],
+    a_offset: usize,
+    b: &[u8],
+    b_offset: usize,
+    len: usize,
+    out: &mut [u8],
+) {
+    write::<OrNot>(a, a_offset, b, b_offset, len, out);
 }
 
 /// Writes the values that are true in one and not in the other.

@@ -2,6 +2,8 @@
 //! The rows at a list of indices, by the size of a row.
 
 use crate::kit::prelude::*;
+use crate::proved::mask_bits::row_index::RowIndex;
+use crate::proved::mask_bits::unchecked::{item, put};
 use crate::proved::mask_c::choose::RowMask16;
 
 /// Writes the rows at `indices`, in their order, to the front of `out`. A row has 1 byte. Indices may come in any order
@@ -49,10 +51,50 @@ pub fn row_mask_take_16(indices: &[usize], rows: &[RowMask16], out: &mut [RowMas
     rows_at(indices, rows, out);
 }
 
+/// As `row_mask_take_1`, and an index has 4 bytes.
+///
+/// Asks that each index is below `rows_count`, and that `out_count >= indices_count`.
+#[inline]
+pub fn row_mask_take_1_by_4(indices: &[u32], rows: &[u8], out: &mut [u8]) {
+    rows_at(indices, rows, out);
+}
+
+/// As `row_mask_take_2`, and an index has 4 bytes.
+///
+/// Asks that each index is below `rows_count`, and that `out_count >= indices_count`.
+#[inline]
+pub fn row_mask_take_2_by_4(indices: &[u32], rows: &[u16], out: &mut [u16]) {
+    rows_at(indices, rows, out);
+}
+
+/// As `row_mask_take_4`, and an index has 4 bytes.
+///
+/// Asks that each index is below `rows_count`, and that `out_count >= indices_count`.
+#[inline]
+pub fn row_mask_take_4_by_4(indices: &[u32], rows: &[u32], out: &mut [u32]) {
+    rows_at(indices, rows, out);
+}
+
+/// As `row_mask_take_8`, and an index has 4 bytes.
+///
+/// Asks that each index is below `rows_count`, and that `out_count >= indices_count`.
+#[inline]
+pub fn row_mask_take_8_by_4(indices: &[u32], rows: &[u64], out: &mut [u64]) {
+    rows_at(indices, rows, out);
+}
+
+/// As `row_mask_take_16`, and an index has 4 bytes.
+///
+/// Asks that each index is below `rows_count`, and that `out_count >= indices_count`.
+#[inline]
+pub fn row_mask_take_16_by_4(indices: &[u32], rows: &[RowMask16], out: &mut [RowMask16]) {
+    rows_at(indices, rows, out);
+}
+
 // The rows at some indices.
 #[inline]
-fn rows_at<T: Copy>(indices: &[usize], rows: &[T], out: &mut [T]) {
+pub(crate) fn rows_at<N: RowIndex, T: Copy>(indices: &[N], rows: &[T], out: &mut [T]) {
     for k in 0..indices.len() {
-        out[k] = rows[indices[k]];
+        put(out, k, item(rows, indices[k].get()));
     }
 }

@@ -3,6 +3,7 @@
 
 use crate::kit::prelude::*;
 mod all_or;
+mod and_rows;
 mod cached;
 mod choose;
 mod choose_values;
@@ -20,6 +21,7 @@ mod lookup;
 mod set_ranges;
 mod slice;
 mod values;
+mod without_first;
 
 use crate::kit::AllocError;
 use crate::proved::mask_bits::BitBuffer;

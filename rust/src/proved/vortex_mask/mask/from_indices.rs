@@ -2,9 +2,9 @@
 //! Masks from indices, and what is wrong with a list of them.
 
 use crate::kit::prelude::*;
-use crate::proved::mask_bits::BitBuffer;
 use crate::proved::mask_bits::byte_list::ByteList;
 use crate::proved::mask_bits::write_bits::{ones, unset_value};
+use crate::proved::mask_bits::{BitBuffer, BitBufferMut};
 use crate::proved::vortex_mask::conditions::ascends;
 use crate::proved::vortex_mask::mask::common_indices::common;
 use crate::proved::vortex_mask::mask::{Mask, MaskError};
@@ -106,6 +106,70 @@ fn first_repeated(indices: &[usize]) -> Option<usize> {
 fn out_of_bounds(len: usize, indices: &[usize]) -> Option<MaskError> {
     let index = *indices.iter().find(|index| **index >= len)?;
     Some(MaskError::IndexOutOfBounds { index, len })
+}
+
+/// Masks of true indices in any order.
+impl Mask {
+    /// The mask of `len` values that is true exactly at the indices that an iterator yields, in any
+    /// order and with repeats: what [`Mask::from_indices`] refuses by its order. It caches no list. No
+    /// values give `AllFalse(0)`.
+    ///
+    /// The values are made first, so `Memory` may come before the other refusal:
+    /// `IndexOutOfBounds` for the first index, as the iterator has them, that is not below `len`.
+    ///
+    /// [`from_unsorted_indices`](Self::from_unsorted_indices) is the same where missing memory ends the process, and has an example.
+    ///
+    /// # The caller owes ([terms](crate::definitions))
+    ///
+    /// - *can*: `I.can_next indices`
+    /// - *ends*: `IsFinite (I.remaining indices)`
+    ///
+    /// # Proved ([terms](crate::definitions))
+    ///
+    /// - *len*: `IfOk result (λ m. length (truth m) ≡ len)`
+    /// - *list*: `IfOk result (λ m. (xs : List ℕ) × Drains I.next_gives indices xs × (out_of_bounds len xs ≡ None) × (truth m ≡ true_at len xs))`
+    /// - *whole*: `IfOk result (λ m. WholeRun I.next_gives indices (λ p. (out_of_bounds len p.items ≡ None) × (truth m ≡ true_at len p.items)))`
+    /// - *variant*: `IfOk result (λ m. variant m ≡ fitting_variant all_false (truth m))`
+    /// - *caches*: `IfOk result (λ m. caches m ≡ no_caches)`
+    /// - *refused*: `IfErr result (λ e. (e ≡ MaskError.Memory alloc_error) ⊎ ((xs : List ℕ) × Drains I.next_gives indices xs × (out_of_bounds len xs ≡ Some e)))`
+    /// - *refused_whole*: `IfErr result (λ e. (e ≡ MaskError.Memory alloc_error) ⊎ WholeRun I.next_gives indices (λ p. out_of_bounds len p.items ≡ Some e))`
+    #[inline]
+    pub fn try_from_unsorted_indices<I: IntoIterator<Item = usize>>(
+        len: usize,
+        indices: I,
+    ) -> Result<Mask, MaskError> {
+        Mask::from_unsorted_indices_proved::<_>(len, indices.into_iter())
+    }
+
+    #[inline]
+    pub(crate) fn from_unsorted_indices_proved<I: Iterator<Item = usize>>(
+        len: usize,
+        indices: I,
+    ) -> Result<Mask, MaskError> {
+        let mut values = BitBufferMut::new_unset_proved(len)?;
+        if let Some(index) = include(&mut values, len, indices) {
+            return Err(MaskError::IndexOutOfBounds { index, len });
+        }
+        Mask::from_buffer_proved(values.freeze_proved()?)
+    }
+}
+
+// Makes those of `len` values true that are at these indices, and tells the first index that is past their end.
+#[inline]
+fn include<I: Iterator<Item = usize>>(
+    values: &mut BitBufferMut,
+    len: usize,
+    indices: I,
+) -> Option<usize> {
+    let mut outside = None;
+    for index in indices {
+        if index < len {
+            values.set_proved(index);
+        } else {
+            outside = outside.or(Some(index));
+        }
+    }
+    outside
 }
 
 /// Masks of false indices.
