@@ -115,7 +115,7 @@ fn sides<'a, A: Answer + 'a, B: Answer + 'a, const N: usize>(
     let mut calls: Vec<Call<'_>> = vec![];
     for job in by_hand {
         // SAFETY: the program asked whether the processor has what the loops take.
-        let mut answer = move || unsafe { job(columns) };
+        let answer = move || unsafe { job(columns) };
         assert!(answer().whole() == expected, "two sides answer differently");
         calls.push(Box::new(move || answer().digest()));
     }
@@ -136,7 +136,7 @@ macro_rules! sources {
 const SHARES: &[u32] = &[10, 500, 900];
 const HALF: &[u32] = &[500];
 
-pub const JOBS: [Job; 12] = [
+pub const JOBS: [Job; 13] = [
     Job {
         name: "scan of three predicates",
         shares: SHARES,
@@ -169,11 +169,15 @@ pub const JOBS: [Job; 12] = [
     },
     Job {
         name: "sum with nulls",
-        shares: SHARES,
-        calls: |columns| {
-            sides(columns, ours::nulls::sum, [by_hand::nulls::sum, by_hand::nulls::sum_of_few])
-        },
+        shares: &[500, 900],
+        calls: |columns| sides(columns, ours::nulls::sum, [by_hand::nulls::sum]),
         sources: sources!("nulls", "sum"),
+    },
+    Job {
+        name: "sum of few rows",
+        shares: &[10],
+        calls: |columns| sides(columns, ours::nulls::sum_of_few, [by_hand::nulls::sum_of_few]),
+        sources: sources!("nulls", "sum_of_few"),
     },
     Job {
         name: "AND with nulls",
@@ -191,7 +195,11 @@ pub const JOBS: [Job; 12] = [
         name: "deletions by ranks",
         shares: SHARES,
         calls: |columns| {
-            sides(columns, ours::deletions::deleted_by_ranks, [by_hand::deletions::deleted_by_ranks])
+            sides(
+                columns,
+                ours::deletions::deleted_by_ranks,
+                [by_hand::deletions::deleted_by_ranks],
+            )
         },
         sources: sources!("deletions", "deleted_by_ranks"),
     },

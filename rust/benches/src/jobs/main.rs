@@ -51,7 +51,8 @@ fn main() {
 }
 
 fn table(is_asked: impl Fn(&str) -> bool) -> String {
-    let mut table = String::from("| Job | True | Lines | by hand, ns | row-mask |\n|---|---|---|---|---|\n");
+    let mut table =
+        String::from("| Job | True | Lines | by hand, ns | row-mask |\n|---|---|---|---|---|\n");
     for job in JOBS.iter().filter(|job| is_asked(job.name)) {
         for share in job.shares {
             let times = LENGTHS.map(|len| timed(job, len, *share));
@@ -59,8 +60,12 @@ fn table(is_asked: impl Fn(&str) -> bool) -> String {
             let said = f64::from(*share) / 10.0;
             let hands = times.map(|(hand, _)| format!("{hand:.0}")).join(" / ");
             let ratios = times.map(|(hand, ours)| format!("{:.2}", ours / hand)).join(" / ");
-            writeln!(table, "| {} | {said}% | {lines} ({by_hand}) | {hands} | {ratios} |", job.name)
-                .unwrap();
+            writeln!(
+                table,
+                "| {} | {said}% | {lines} ({by_hand}) | {hands} | {ratios} |",
+                job.name
+            )
+            .unwrap();
         }
     }
     table

@@ -87,7 +87,12 @@ pub unsafe fn put_of_8(word: u64, rows: *const i64, out: *mut i64, mut at: usize
 /// # Safety
 /// There is a row for each set bit, and room for it.
 #[inline]
-pub unsafe fn put_each<T: Copy>(mut word: u64, rows: *const T, out: *mut T, mut at: usize) -> usize {
+pub unsafe fn put_each<T: Copy>(
+    mut word: u64,
+    rows: *const T,
+    out: *mut T,
+    mut at: usize,
+) -> usize {
     while word != 0 {
         // SAFETY: there is such a row, and room for it.
         unsafe { *out.add(at) = *rows.add(word.trailing_zeros() as usize) };

@@ -1,13 +1,13 @@
-//! A sum over a column with nulls, and `AND` of two predicates with nulls.
+//! Sums over a column with nulls and over the rows chosen, and `AND` of two predicates with nulls.
 
 use super::Words;
 use crate::columns::Columns;
 use std::arch::x86_64::{
     __m256i, _mm256_add_epi64, _mm256_and_si256, _mm256_cmpeq_epi64, _mm256_loadu_si256,
-    _mm256_set1_epi64x, _mm256_set_epi64x, _mm256_setzero_si256, _mm256_storeu_si256,
+    _mm256_set_epi64x, _mm256_set1_epi64x, _mm256_setzero_si256, _mm256_storeu_si256,
 };
 
-/// The sum of the prices that are chosen.
+/// The sum of the prices that are valid.
 #[target_feature(enable = "avx2,bmi1,bmi2,popcnt")]
 pub fn sum(columns: &Columns) -> u64 {
     let (whole, last) = columns.prices.as_chunks::<64>();
@@ -33,7 +33,7 @@ pub fn sum(columns: &Columns) -> u64 {
     (four.iter().sum::<i64>() + chosen.map(|(_, it)| it).sum::<i64>()).cast_unsigned()
 }
 
-/// The same where few rows are chosen.
+/// The sum where few rows are chosen.
 #[target_feature(enable = "avx2,bmi1,bmi2,popcnt")]
 pub fn sum_of_few(columns: &Columns) -> u64 {
     let mut sum = 0;

@@ -55,7 +55,8 @@ fn left_of<T: Copy>(mut word: u64, rows: &[T], is_left: impl Fn(T) -> bool) -> u
 pub fn scan(columns: &Columns) -> (Vec<i64>, Vec<u32>) {
     let (len, limit) = (columns.len, columns.limit.cast_signed());
     // SAFETY: numbers of 4 bytes are such.
-    let amounts = unsafe { std::slice::from_raw_parts(columns.amounts.as_ptr().cast::<i32>(), len) };
+    let amounts =
+        unsafe { std::slice::from_raw_parts(columns.amounts.as_ptr().cast::<i32>(), len) };
     let (mut prices, mut out) = (Vec::with_capacity(len + 8), Vec::with_capacity(len + 8));
     let (mut at, mut at_out) = (0, 0);
     let (whole, last) = amounts.as_chunks::<64>();

@@ -14,5 +14,5 @@ pub fn from_indices(columns: &Columns) -> BitmapBuf {
 
 /// Rows of 8 bytes at a list of row numbers.
 pub fn take(columns: &Columns) -> Vec<i64> {
-    row_mask::take(&columns.prices, &columns.indices).unwrap()
+    row_mask::take(&columns.indices, &columns.prices).unwrap()
 }
