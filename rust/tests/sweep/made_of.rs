@@ -81,8 +81,7 @@ fn left_of_rows(seen: &mut Comparisons, random: &mut Generator, list: &[bool]) {
         seen.same(left.as_bytes(), &packed(&want)[..]);
         let mask = Mask::from(BitmapBuf::from(list));
         seen.same(mask.and_rows(&rows, &is_true), Mask::from(left));
-        let longer =
-            BitBuffer::from_iter([true, false, true].into_iter().chain(list.iter().copied()));
+        let longer: BitBuffer = [true; 3].into_iter().chain(list.iter().copied()).collect();
         let within = longer.slice(3..3 + list.len()).and_rows(&rows, &is_true);
         seen.same(within.iter().collect::<Vec<bool>>(), want);
     }
