@@ -46,7 +46,7 @@ pub(crate) fn are_within<I: RowIndex>(indices: &[I], len: usize) -> Result<(), E
         return Ok(());
     };
     // (a way out of the loop would stop each step)
-    if indices.iter().fold(true, |all, index| all & (*index < end)) {
+    if indices.iter().map(|index| *index < end).fold(true, |all, inside| all & inside) {
         return Ok(());
     }
     let index = indices.iter().map(|index| index.get()).find(|index| *index >= len);

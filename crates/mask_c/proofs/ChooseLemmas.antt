@@ -1,5 +1,5 @@
 -- The places of started words, and rows at one more index.
-use Rattle.mask_c.proofs.Common.{◌≡◌, ℕ, ◌+◌, ◌*◌, ◌<◌, ◌≤◌, Bool, List, [], ◌∷◌, ◌++◌, length, get_or, set, take, drop, map, slice_get, Option, Some, cons_option, filter_map-append, sym, subst, ap, ◌∙◌, add-zero, arith, All, length-drop, length-take, drop-drop, drop-set-lt, take_all, take_more, take_more_set, All-weaker, indices_from, positions, padded_part, word_bits, items_at, length-padded_part, positions-within, indices_from-moved, places-word_more, part-same, places-same}
+use Rattle.mask_c.proofs.Common.{◌≡◌, ℕ, ◌+◌, ◌*◌, ◌<◌, ◌≤◌, Bool, List, [], ◌∷◌, ◌++◌, length, get_or, set, take, drop, map, Option, Some, cons_option, filter_map-append, sym, subst, ap, ◌∙◌, add-zero, arith, All, length-drop, length-take, drop-drop, drop-set-lt, take_all, take_more, take_more_set, All-weaker, indices_from, positions, padded_part, word_bits, length-padded_part, positions-within, indices_from-moved, places-word_more, part-same, places-same}
 use Rattle.std.specs.List.{filter_map}
 
 -- a started part has the places of its values

@@ -1,5 +1,5 @@
 -- The values of a bitmap at a list of indices, as they are put into words.
-use Rattle.mask_c.proofs.Common.{common_steps, ◌≡◌, ℕ, ◌+◌, ◌-◌, ◌*◌, ◌<◌, ◌≤◌, inl, inr, Bool, false, List, [], ◌∷◌, ◌++◌, Some, cons_option, length, get_or, set, take, drop, map, slice_get, slice_range, refl, sym, ap, ap₂, ◌∙◌, arith, cases_lt, cases_eq, All, All-head, All-tail, take_more, map-append, length-map, length-take, get_or-set_at, get_or-set_other, get_or_append_left, get_or-append_right, get_or_past, get_or-between, bitmap, backing_bit, word_bits, window, get_or-window}
+use Rattle.mask_c.proofs.Common.{common_steps, ◌≡◌, ℕ, ◌+◌, ◌-◌, ◌*◌, ◌<◌, ◌≤◌, inl, inr, Bool, false, List, [], ◌∷◌, ◌++◌, cons_option, length, get_or, set, take, drop, map, slice_get, slice_range, refl, sym, ap, ap₂, ◌∙◌, arith, cases_lt, cases_eq, All, All-head, All-tail, take_more, map-append, length-map, length-take, get_or-set_at, get_or-set_other, get_or_append_left, get_or-append_right, get_or_past, get_or-between, bitmap, backing_bit, word_bits, window, get_or-window}
 use Rattle.std.specs.List.{filter_map}
 use Rattle.std.specs.Prelude.{◌⊎◌}
 use Rattle.std.proofs.lemmas.List.{take-map, drop-map}

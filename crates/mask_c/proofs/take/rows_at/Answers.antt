@@ -1,4 +1,4 @@
-use Rattle.mask_c.proofs.Common.{◌≡◌, ◌<◌, ◌+◌, Option, Some, drop, get_or, length, slice_get, take, refl, sym, ap, ◌∙◌, arith}
+use Rattle.mask_c.proofs.Common.{◌≡◌, ◌<◌, ◌+◌, Option, Some, drop, length, slice_get, take, refl, sym, ap, ◌∙◌, arith}
 use Rattle.mask_c.proofs.ChooseLemmas.{behind-more, rows_at-more}
 use Rattle.mask_c.proofs.take.rows_at.Goals as goal
 

@@ -1,4 +1,4 @@
-use Rattle.mask_c.proofs.Common.{ℕ, ◌≡◌, Bool, List, ◌<◌, ◌+◌, ◌*◌, ◌/◌, ◌%◌, false, length, get_or, map, take, drop, sym, ap, ◌∙◌, arith, ext_get_or, get_or-take, length-drop, length-map, length-take, length-take-le, take-append-drop, take_rest, backing_bit, bitmap, word_bits, length-word_bits, list-from_bits}
+use Rattle.mask_c.proofs.Common.{◌≡◌, Bool, List, ◌<◌, ◌+◌, ◌*◌, ◌/◌, ◌%◌, false, length, get_or, map, take, drop, sym, ap, ◌∙◌, arith, ext_get_or, get_or-take, length-drop, length-map, length-take, length-take-le, take-append-drop, take_rest, backing_bit, bitmap, word_bits, length-word_bits, list-from_bits}
 use Rattle.std.proofs.lemmas.List.{take-map, drop-map}
 use Rattle.mask_c.proofs.LastLemmas.{written}
 use Rattle.mask_c.proofs.TakeBitsLemmas.{values-made}

@@ -1,4 +1,4 @@
-use Rattle.mask_c.proofs.Common.{ℕ, ◌+◌, ◌*◌, Bool, map, slice_range, arith, backing_bit}
+use Rattle.mask_c.proofs.Common.{◌+◌, ◌*◌, Bool, map, slice_range, arith, backing_bit}
 use Rattle.mask_c.proofs.TakeBitsLemmas.{made-part, words-more}
 use Rattle.mask_c.proofs.take_bits.put_words.Goals as goal
 

@@ -1,4 +1,4 @@
-use Rattle.mask_c.proofs.Common.{ℕ, ◌≡◌, ◌+◌, ◌<◌, Bool, false, List, get_or, set, length, map, sym, ap, ◌∙◌, arith, take_all, backing_bit, length-set, get_or-replicate, length-replicate}
+use Rattle.mask_c.proofs.Common.{ℕ, ◌+◌, ◌<◌, Bool, false, List, get_or, set, length, map, sym, ap, ◌∙◌, arith, take_all, backing_bit, length-set, get_or-replicate, length-replicate}
 use Rattle.mask_c.proofs.TakeBitsLemmas.{bits-more}
 use Rattle.mask_c.proofs.take_bits.word_of_indices.Goals as goal
 
