@@ -9,13 +9,13 @@ pub trait RowIndex: Copy {
     ghost use Rattle.std.specs.Prelude.{◌≡◌, ◌+◌, ◌^◌, ◌<◌, ◌≤◌, ◌++◌, ℕ, length, map, slice_index};
 
     /// The number.
-    ghost number: { Self → ℕ };
+    ghost row_number: { Self → ℕ };
 
     /// The index that is made of a number: of its lowest bits, as many as an index has.
     ghost index_of: { ℕ → Self };
 
     fn get(self) -> usize
-        ensures { result ≡ number self };
+        ensures { result ≡ row_number self };
 
     /// All numbers are taken, since loops that put several indices at a time put some behind the last one, and drop them.
     fn of(n: usize) -> Self
@@ -32,7 +32,7 @@ pub trait RowIndex: Copy {
 }
 
 impl RowIndex for usize {
-    ghost number = { λ n. n };
+    ghost row_number = { λ n. n };
 
     ghost index_of = { λ n. n };
 
@@ -58,7 +58,7 @@ impl RowIndex for usize {
 impl RowIndex for u32 {
     ghost use Rattle.std.specs.Prelude.{◌%◌, ◌^◌};
 
-    ghost number = { λ n. n };
+    ghost row_number = { λ n. n };
 
     ghost index_of = { λ n. n % 2 ^ 32 };
 

@@ -8,8 +8,29 @@ use crate::byte_places::places_of;
 use crate::room::Room;
 use crate::row_index::RowIndex;
 use crate::unchecked::put;
-use crate::word_items::{IndicesFrom, push_by, push_one_by_one};
+use crate::word_items::{WordItems, push_by, push_one_by_one};
 use std::marker::PhantomData;
+
+// The indices of places, of which the first has the index `base`.
+#[derive(Clone, Copy)]
+struct IndicesFrom<N> {
+    base: usize,
+    kind: PhantomData<N>,
+}
+
+// Each place yields its index.
+impl<N: RowIndex> WordItems for IndicesFrom<N> {
+    ghost use Rattle.std.specs.Prelude.{◌+◌, ◌^◌, Some, None, nat_lt, if◌then◌else◌};
+
+    type Item = N;
+
+    ghost at = { λ s p. if nat_lt (s.base + p) (2 ^ 64) then Some (N.index_of (s.base + p)) else None };
+
+    #[inline(always)]
+    fn lowest(self, word: u64) -> N {
+        N::of(self.base + word.trailing_zeros() as usize)
+    }
+}
 
 /// Writes `first` and the indices of the set bits of a word from there on behind the first `at` indices, as many as there
 /// is room for, and answers how many there are then.

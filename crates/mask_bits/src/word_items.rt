@@ -11,9 +11,7 @@ ghost use Rattle.mask_bits.specs.WordItems.{items_of};
 ghost use Rattle.mask_bits.specs.Words.{word_bits};
 
 use crate::room::Room;
-use crate::row_index::RowIndex;
 use crate::unchecked::item;
-use std::marker::PhantomData;
 
 /// What the 64 places of a word yield, and what is read where no bit is left, as of place 64.
 pub(crate) trait WordItems: Copy {
@@ -29,27 +27,6 @@ pub(crate) trait WordItems: Copy {
     fn lowest(self, word: u64) -> Self::Item
         requires { IsSome (at self (trailing_zeros w64 word)) }
         ensures { at self (trailing_zeros w64 word) ≡ Some result };
-}
-
-/// The indices of places, of which the first has the index `base`.
-#[derive(Clone, Copy)]
-pub(crate) struct IndicesFrom<N> {
-    pub(crate) base: usize,
-    pub(crate) kind: PhantomData<N>,
-}
-
-/// Each place yields its index.
-impl<N: RowIndex> WordItems for IndicesFrom<N> {
-    ghost use Rattle.std.specs.Prelude.{◌+◌, ◌^◌, Some, None, nat_lt, if◌then◌else◌};
-
-    type Item = N;
-
-    ghost at = { λ s p. if nat_lt (s.base + p) (2 ^ 64) then Some (N.index_of (s.base + p)) else None };
-
-    #[inline(always)]
-    fn lowest(self, word: u64) -> N {
-        N::of(self.base + word.trailing_zeros() as usize)
-    }
 }
 
 /// Each place yields its row.

@@ -44,9 +44,9 @@ pub extern "C" fn row_mask_from_indices_4(indices: &[u32], len: usize, out: &mut
 
 // Sets the bits at these positions, and clears all others.
 fn set_alone<N: RowIndex>(bytes: &mut [u8], positions: &[N])
-    requires { All (λ p. N.number p < 8 * length bytes.old) positions.now }
+    requires { All (λ p. N.row_number p < 8 * length bytes.old) positions.now }
     ensures { (p : ℕ) → p < 8 * length bytes.old
-        → backing_bit bytes.new p ≡ list_any (λ i. nat_eq p (N.number i)) positions.now }
+        → backing_bit bytes.new p ≡ list_any (λ i. nat_eq p (N.row_number i)) positions.now }
 {
     bytes.fill(0);
     for position in positions {

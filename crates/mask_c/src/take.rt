@@ -156,10 +156,10 @@ pub extern "C" fn row_mask_take_16_by_4(indices: &[u32], rows: &[RowMask16], out
 // rust: visible
 #[inline]
 fn rows_at<N: RowIndex, T: Copy>(indices: &[N], rows: &[T], out: &mut [T])
-    requires within { All (λ i. N.number i < length rows.now) indices.now }
+    requires within { All (λ i. N.row_number i < length rows.now) indices.now }
     requires room { length indices.now ≤ length out.old }
     ensures rows { take (length indices.now) out.new
-        ≡ filter_map (λ i. slice_get rows.now (N.number i)) indices.now }
+        ≡ filter_map (λ i. slice_get rows.now (N.row_number i)) indices.now }
     ensures behind { drop (length indices.now) out.new ≡ drop (length indices.now) out.old }
 {
     for k in 0..indices.len() {

@@ -66,10 +66,10 @@ pub extern "C" fn row_mask_take_bits_by_4(
 // rust: level
 fn bits_at<N: RowIndex>(bytes: &[u8], offset: usize, len: usize, indices: &[N], out: &mut [u8])
     requires bitmap { IsWithinBytes bytes.now offset len }
-    requires within { All (λ i. N.number i < len) indices.now }
+    requires within { All (λ i. N.row_number i < len) indices.now }
     requires room { div_ceil (length indices.now) 8 ≤ length out.old }
     ensures values { bitmap out.new 0 (length indices.now)
-        ≡ filter_map (λ i. slice_get (bitmap bytes.now offset len) (N.number i)) indices.now }
+        ≡ filter_map (λ i. slice_get (bitmap bytes.now offset len) (N.row_number i)) indices.now }
     ensures clear { AreClearBehind out.new (length indices.now) }
     ensures behind { drop (div_ceil (length indices.now) 8) out.new
         ≡ drop (div_ceil (length indices.now) 8) out.old }
@@ -90,10 +90,10 @@ fn bits_at<N: RowIndex>(bytes: &[u8], offset: usize, len: usize, indices: &[N], 
 #[inline(always)]
 fn put_words<N: RowIndex>(bytes: &[u8], offset: usize, len: usize, indices: &[N], out: &mut [u8])
     requires bitmap { IsWithinBytes bytes.now offset len }
-    requires within { All (λ i. N.number i < len) indices.now }
+    requires within { All (λ i. N.row_number i < len) indices.now }
     requires room { length indices.now / 64 * 8 ≤ length out.old }
     ensures { (i : ℕ) → i < length indices.now / 64 * 64 → backing_bit out.new i
-        ≡ slice_index_or (map (λ i. backing_bit bytes.now (offset + N.number i)) indices.now) i false }
+        ≡ slice_index_or (map (λ i. backing_bit bytes.now (offset + N.row_number i)) indices.now) i false }
 {
     for i in 0..indices.len() / 64 {
         let word = word_of_indices(bytes, offset, len, &indices[64 * i..64 * i + 64]);
@@ -105,10 +105,10 @@ fn put_words<N: RowIndex>(bytes: &[u8], offset: usize, len: usize, indices: &[N]
 #[inline(always)]
 fn word_of_indices<N: RowIndex>(bytes: &[u8], offset: usize, len: usize, indices: &[N]) -> u64
     requires bitmap { IsWithinBytes bytes.now offset len }
-    requires within { All (λ i. N.number i < len) indices.now }
+    requires within { All (λ i. N.row_number i < len) indices.now }
     requires few { length indices.now ≤ 64 }
     ensures { (j : ℕ) → j < 64 → slice_index_or (word_bits result) j false
-        ≡ slice_index_or (map (λ i. backing_bit bytes.now (offset + N.number i)) indices.now) j false }
+        ≡ slice_index_or (map (λ i. backing_bit bytes.now (offset + N.row_number i)) indices.now) j false }
 {
     let mut bits = [false; 64];
     for j in 0..indices.len() {

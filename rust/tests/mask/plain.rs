@@ -157,7 +157,7 @@ fn builders_are_as_those_that_may_refuse() {
 
 #[test]
 fn what_is_wrong_is_said() {
-    let texts: [(fn(), &str); 8] = [
+    let texts: [(fn(), &str); 9] = [
         (
             || drop(Mask::from_indices(5, [2, 0])),
             "row_mask: `from_indices`: Mask indices must be sorted: index at place 1 is below the one before it",

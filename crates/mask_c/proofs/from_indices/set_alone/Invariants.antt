@@ -4,4 +4,4 @@ use Rattle.mask_c.proofs.from_indices.set_alone.Given as goal
 
 -- the set bits are those at the positions so far
 abbrev pub invariant-loop-position : goal.invariant-loop-position
-invariant-loop-position g l = AreSetAt g.N.RowIndex.number l.bytes (take l.position-index l.positions)
+invariant-loop-position g l = AreSetAt g.N.RowIndex.row_number l.bytes (take l.position-index l.positions)

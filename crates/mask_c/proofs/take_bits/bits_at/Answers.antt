@@ -7,7 +7,7 @@ use Rattle.mask_c.proofs.take_bits.bits_at.Goals as goal
 pub returns-clause-values : goal.returns-clause-values
 returns-clause-values g c =
     let indices = c.args.indices.now in
-    let f : g.row.N.Denot → Bool = λ n. backing_bit c.args.bytes.now (c.args.offset + g.N.RowIndex.number n) in
+    let f : g.row.N.Denot → Bool = λ n. backing_bit c.args.bytes.now (c.args.offset + g.N.RowIndex.row_number n) in
     let m = map f indices in
     let n = length indices in
     let w = 64 * (n / 64) in
@@ -30,4 +30,4 @@ returns-clause-values g c =
     ∙ ap (λ (xs : List g.row.N.Denot). get_or (map f xs) j false) (take_rest indices w)
     ∙ ap (λ (xs : List Bool). get_or xs j false) (sym (drop-map f w indices))))
     ∙ take-append-drop w m
-    ∙ sym (values-made g.N.RowIndex.number c.args.bytes.now c.args.offset c.args.len indices c.requires.within)
+    ∙ sym (values-made g.N.RowIndex.row_number c.args.bytes.now c.args.offset c.args.len indices c.requires.within)

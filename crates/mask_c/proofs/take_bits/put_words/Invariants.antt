@@ -3,4 +3,4 @@ use Rattle.mask_c.proofs.take_bits.put_words.Given as goal
 
 -- the values of the words so far are written
 abbrev pub invariant-loop-i : goal.invariant-loop-i
-invariant-loop-i g l = (p : ℕ) → p < 64 * l.i → backing_bit l.out p ≡ get_or (map (λ i. backing_bit l.bytes (l.offset + g.N.RowIndex.number i)) l.indices) p false
+invariant-loop-i g l = (p : ℕ) → p < 64 * l.i → backing_bit l.out p ≡ get_or (map (λ i. backing_bit l.bytes (l.offset + g.N.RowIndex.row_number i)) l.indices) p false

@@ -14,7 +14,7 @@ loop-j-preserved g c =
     let indices = c.args.indices.now in
     let bits = c.loop-j.bits in
     let j = c.loop-j.j in
-    let f : g.row.N.Denot → Bool = λ i. backing_bit bytes (c.args.offset + g.N.RowIndex.number i) in
+    let f : g.row.N.Denot → Bool = λ i. backing_bit bytes (c.args.offset + g.N.RowIndex.row_number i) in
     let few : j < length indices = omega (arith, c.loop-j-test.true) in
     let room : j < length bits = omega (arith, few, c.requires.few, c.loop-j.invariant.len) in
     let is = c.bit.ensures ∙ ap (λ (n : ℕ). backing_bit bytes (c.args.offset + n)) c.get.ensures in
@@ -27,4 +27,4 @@ pub returns : goal.returns
 returns g c j h =
     c.word_of_bools.ensures j h
     ∙ c.loop-j.invariant.each j h
-    ∙ ap (λ (xs : List g.row.N.Denot). get_or (map (λ i. backing_bit c.args.bytes.now (c.args.offset + g.N.RowIndex.number i)) xs) j false) (take_all c.loop-j.j c.args.indices.now (omega (arith, c.loop-j-test.false)))
+    ∙ ap (λ (xs : List g.row.N.Denot). get_or (map (λ i. backing_bit c.args.bytes.now (c.args.offset + g.N.RowIndex.row_number i)) xs) j false) (take_all c.loop-j.j c.args.indices.now (omega (arith, c.loop-j-test.false)))
