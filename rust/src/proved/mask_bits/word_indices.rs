@@ -6,8 +6,25 @@ use crate::proved::mask_bits::byte_places::places_of;
 use crate::proved::mask_bits::room::Room;
 use crate::proved::mask_bits::row_index::RowIndex;
 use crate::proved::mask_bits::unchecked::put;
-use crate::proved::mask_bits::word_items::{IndicesFrom, push_by, push_one_by_one};
+use crate::proved::mask_bits::word_items::{WordItems, push_by, push_one_by_one};
 use ::core::marker::PhantomData;
+
+// The indices of places, of which the first has the index `base`.
+#[derive(Clone, Copy)]
+struct IndicesFrom<N> {
+    base: usize,
+    kind: PhantomData<N>,
+}
+
+// Each place yields its index.
+impl<N: RowIndex> WordItems for IndicesFrom<N> {
+    type Item = N;
+
+    #[inline(always)]
+    fn lowest(self, word: u64) -> N {
+        N::of(self.base + word.trailing_zeros() as usize)
+    }
+}
 
 /// Writes `first` and the indices of the set bits of a word from there on behind the first `at` indices, as many as there
 /// is room for, and answers how many there are then.

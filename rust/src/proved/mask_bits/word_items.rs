@@ -7,9 +7,7 @@
 
 use crate::kit::prelude::*;
 use crate::proved::mask_bits::room::Room;
-use crate::proved::mask_bits::row_index::RowIndex;
 use crate::proved::mask_bits::unchecked::item;
-use ::core::marker::PhantomData;
 
 /// What the 64 places of a word yield, and what is read where no bit is left, as of place 64.
 pub(crate) trait WordItems: Copy {
@@ -17,23 +15,6 @@ pub(crate) trait WordItems: Copy {
 
     /// The item of the lowest set bit.
     fn lowest(self, word: u64) -> Self::Item;
-}
-
-/// The indices of places, of which the first has the index `base`.
-#[derive(Clone, Copy)]
-pub(crate) struct IndicesFrom<N> {
-    pub(crate) base: usize,
-    pub(crate) kind: PhantomData<N>,
-}
-
-/// Each place yields its index.
-impl<N: RowIndex> WordItems for IndicesFrom<N> {
-    type Item = N;
-
-    #[inline(always)]
-    fn lowest(self, word: u64) -> N {
-        N::of(self.base + word.trailing_zeros() as usize)
-    }
 }
 
 /// Each place yields its row.
