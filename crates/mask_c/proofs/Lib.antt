@@ -9,14 +9,11 @@ mod FromIndicesLemmas
 mod IndexLemmas
 mod LastLemmas
 mod LastRankLemmas
-mod NullableLemmas
-mod NarrowedLemmas
-mod RunLemmas
-mod ShortStringLemmas
-mod StringLemmas
-mod WriteLemmas
 mod NarrowLemmas
+mod NarrowedLemmas
+mod NullableLemmas
 mod RunLemmas
 mod ShortStringLemmas
 mod StringLemmas
 mod TakeBitsLemmas
+mod WriteLemmas

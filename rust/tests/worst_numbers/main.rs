@@ -5,6 +5,7 @@
 
 mod aborts;
 mod memory;
+mod rows;
 
 use memory::{AHEAD, LITTLE, lacks, limit, refused, within};
 use row_mask::{
@@ -44,7 +45,7 @@ fn each_public_call_is_here() {
     let mut all = vec![];
     names(&Path::new(env!("CARGO_MANIFEST_DIR")).join("src"), &mut all);
     assert!(all.len() > 80, "{all:?}");
-    let here = include_str!("main.rs");
+    let here = concat!(include_str!("main.rs"), include_str!("rows.rs"));
     all.retain(|name| ![".", "::"].iter().any(|it| here.contains(&format!("{it}{name}("))));
     assert_eq!(all, [""; 0], "are called nowhere here");
 }
@@ -408,8 +409,8 @@ fn nulls_that_differ_or_find_no_room() {
 #[test]
 fn memory_that_runs_out_for_the_second_of_two() {
     let _alone = limit();
-    // 400 MiB are there twice, and not a third time
-    let len = 8 * (400 << 20);
+    // 350 MiB are there twice, and not a third time
+    let len = 8 * (350 << 20);
     let rows = BitmapBuf::all_false(len);
     let rows = NullableBitmap::new(rows.as_bitmap(), Some(rows.as_bitmap())).unwrap();
     let (mut values, mut validity) = (BitmapBuf::all_true(9), BitmapBuf::all_true(3));

@@ -289,6 +289,19 @@ pub const ROWS: &[Row] = &[
         ],
     ),
     (
+        "BitBuffer::try_and_rows",
+        "",
+        "`and_rows` needs `rows.len() == self.len()`: ",
+        &[
+            (|| ok(bits("10").try_and_rows(&[0; 3], |it| *it == 0)), "3 is not 2"),
+            (|| ok(bits("10").try_and_rows(&[0; 1], |it| *it == 0)), "1 is not 2"),
+        ],
+        &[
+            || ok(bits("10").try_and_rows(&[0; 2], |it| *it == 0)),
+            || ok(bits("").try_and_rows(&[0; 0], |it| *it == 0)),
+        ],
+    ),
+    (
         "BitBufferMut::set",
         "",
         "`set` needs `i < self.len()`: ",

@@ -228,6 +228,21 @@ pub const ROWS: &[Row] = &[
         ],
     ),
     (
+        "Mask::try_and_rows",
+        "",
+        "`and_rows` needs `rows.len() == self.len()`: ",
+        &[
+            (|| ok(five().try_and_rows(&[0; 4], |it| *it == 0)), "4 is not 5"),
+            (|| ok(Mask::AllTrue(5).try_and_rows(&[0; 6], |it| *it == 0)), "6 is not 5"),
+            (|| ok(Mask::AllFalse(1).try_and_rows(&[0; 0], |it| *it == 0)), "0 is not 1"),
+        ],
+        &[
+            || ok(five().try_and_rows(&[0; 5], |it| *it == 0)),
+            || ok(Mask::AllTrue(1).try_and_rows(&[0], |it| *it == 0)),
+            || ok(mask("").try_and_rows(&[0; 0], |it| *it == 0)),
+        ],
+    ),
+    (
         "Mask::try_bitand",
         "",
         "`bitand`: Masks must have the same length: ",
