@@ -55,7 +55,7 @@ fn rows_at_indices() {
 #[test]
 fn more_bytes_than_an_offset_counts() {
     let _alone = limit();
-    let bytes = [b'a'; 1 << 20];
+    let bytes = vec![b'a'; 1 << 20];
     let one = Strings::new(&[0_i32, 1 << 20], &bytes).unwrap();
     let great = Error::OffsetTooGreat { offset: 1 << 31 };
     let twice = [0_u32; 2048];
