@@ -37,7 +37,8 @@ impl Bitmap<'_> {
     /// Folds all rows, each with whether its value is true, in their order: `fold` gets `init` with the first row, what it
     /// answers then with the next one, and so on. A compiler can do simple steps for several rows at once, such as this
     /// sum of a column with nulls, whose validity is a bitmap. It takes less time than
-    /// [`fold_chosen`](Self::fold_chosen), unless few values are true.
+    /// [`fold_chosen`](Self::fold_chosen), unless few values are true. Floats are added one after another, in their order:
+    /// their sum takes less time by [`fold_chosen`](Self::fold_chosen).
     ///
     /// ```
     /// let (prices, valid) = ([250, 0, 120], row_mask::BitmapBuf::from(&[true, false, true][..]));

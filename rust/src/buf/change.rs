@@ -111,7 +111,9 @@ impl BitmapBuf {
     /// Leaves those values true of whose rows a test says so, in place: the next predicate over a column's rows. The test
     /// is a plain function of a row: where few of 64 rows are left it is asked of these alone, and where many are, of all
     /// 64 together, so that some are asked for nothing. Of a test that changes something, or that takes long of rows of
-    /// fewer than 16 bytes, as a look-up does, [`retain`](Self::retain) asks true values alone.
+    /// fewer than 16 bytes, as a look-up does, [`retain`](Self::retain) asks true values alone. Of a quick test of wider
+    /// rows, such as a string's length, [`from_rows`](Self::from_rows) and [`and_with`](Self::and_with) take less time where
+    /// half are left.
     ///
     /// ```
     /// let prices = [250, 700, 120, 90];
