@@ -167,7 +167,9 @@ def functions_in(file, text=None):
         block = next((block for block in reversed(blocks) if block.start < it.start() < block.end), None)
         # (a law is called by the module that hands all of them on)
         owner = block.owner if block else "laws" if "laws" in module_of(file) else file.stem
-        path = "::".join([block.owner + block.trait if block else "::".join(module_of(file)), it[2]]).removeprefix("::")
+        # (an impl's name begins with a capital, also that of a number's type)
+        impl = block and block.owner[:1].upper() + block.owner[1:] + block.trait
+        path = "::".join([impl or "::".join(module_of(file)), it[2]]).removeprefix("::")
         clauses |= {ghost: ("ghost", "") for ghost in (block.ghosts if block else ())}
         ensures = any(kind == "ensures" for kind, _ in clauses.values())
         is_promised = block and (block.is_public_trait or block.trait and ensures)
