@@ -19,7 +19,7 @@ pub use owned::NullableBitmapBuf;
 ///
 /// The calls answer as SQL does, by Kleene's tables, in one pass over both lists. What they write is false at each null. A
 /// call that takes a list with nulls also takes one without, such as a [`Bitmap`], and `&` of a [`NullableBitmapBuf`] or a
-/// [`NullableBitBuffer`].
+/// [`NullableBitBuffer`](crate::NullableBitBuffer).
 ///
 /// ```
 /// use row_mask::{Bitmap, NullableBitmap};
