@@ -1,9 +1,11 @@
 -- What the loop over the words of two lists with nulls reads, and what it has written, bit by bit.
 use Rattle.std.specs.Option.{ForSome, is_some}
-use Rattle.std.specs.Prelude.{ℕ, ◌+◌, ◌*◌, ◌<◌, ◌≡◌, Bool, true, false, List, Option, None, Some, map, option_map, zip}
+use Rattle.std.specs.Int.{bit_at}
+use Rattle.std.specs.Prelude.{ℕ, ◌+◌, ◌*◌, ◌%◌, ◌<◌, ◌≡◌, ◌||◌, nat_eq, Bool, true, false, List, Option, None, Some, map, option_map}
 use Rattle.mask_bits.specs.Bitmap.{bitmap}
 use Rattle.mask_bits.specs.Buffer.{IsWithinBytes, backing_bit}
-use Rattle.mask_bits.specs.Nullable.{is_true, nullable}
+use Rattle.mask_bits.specs.Lists.{or_of}
+use Rattle.mask_bits.specs.Nullable.{is_true, nullable, nullable_value}
 use Rattle.mask_bits.specs.Words.{window, word_bits}
 use Rattle.mask_bits.specs.declared.kleene.NullableBitmap.{NullableBitmap}
 use Rattle.mask_bits.specs.declared.kleene.NullableBits.{NullableBits}
@@ -14,30 +16,18 @@ is_false (Some true) = false
 is_false (Some false) = true
 is_false None = false
 
--- a value where there is no validity, and another bit in its place
-abbrev pub always_valid : Bool → Bool → Option Bool
-always_valid value other = Some value
-
--- what each value is with the bit of its validity
-abbrev pub placed : (Bool → Bool → Option Bool) → List Bool → List Bool → List (Option Bool)
-placed place values validity = map (λ v. place v.0 v.1) (zip values validity)
-
 -- the words whose bits are set where the values are true, and where they are false
 pub record AreWordsOf (m : List (Option Bool)) (t f : ℕ) : Type 0 where
   pub trues : word_bits t ≡ map is_true m
   pub falses : word_bits f ≡ map is_false m
 
--- value k of the bits of values and of their validity
-abbrev pub value_at : (Bool → Bool → Option Bool) → NullableBits → ℕ → Option Bool
-value_at place a k = place (backing_bit a.values.bytes.now (a.values.low + k)) (backing_bit a.validity.bytes.now (a.validity.low + k))
+-- value k: it is valid where the bit of its validity is set, or its bit of the word `valid`
+abbrev pub value_at : NullableBits → ℕ → Option Bool
+value_at a k = nullable_value (backing_bit a.values.bytes.now (a.values.low + k)) (backing_bit a.validity.bytes.now (a.validity.low + k) || nat_eq (bit_at a.valid (k % 64)) 1)
 
--- its first n values
-abbrev pub values_of : (Bool → Bool → Option Bool) → NullableBits → ℕ → List (Option Bool)
-values_of place a n = placed place (bitmap a.values.bytes.now a.values.low n) (bitmap a.validity.bytes.now a.validity.low n)
-
--- its 64 values of word i
-abbrev pub word_values : (Bool → Bool → Option Bool) → NullableBits → ℕ → List (Option Bool)
-word_values place a i = placed place (window a.values.bytes.now (a.values.low + 64 * i)) (window a.validity.bytes.now (a.validity.low + 64 * i))
+-- the 64 values of word i
+abbrev pub word_values : NullableBits → ℕ → List (Option Bool)
+word_values a i = nullable (window a.values.bytes.now (a.values.low + 64 * i)) (Some (or_of (window a.validity.bytes.now (a.validity.low + 64 * i)) (word_bits a.valid)))
 
 -- the first n bits of `out` are h of what the table has for the two values
 abbrev pub AreOfTable : (Option Bool → Bool) → (Option Bool → Option Bool → Option Bool) → (ℕ → Option Bool) → (ℕ → Option Bool) → List ℕ → ℕ → Type 0

@@ -13,35 +13,16 @@ pub struct NullableWord {
 }
 
 impl NullableWord {
+    // 64 values and their validity
+    #[inline(always)]
+    fn new(values: u64, validity: u64) -> NullableWord {
+        NullableWord { trues: validity & values, falses: validity & !values }
+    }
+
     // where they are valid
     #[inline(always)]
     fn valid(self) -> u64 {
         self.trues | self.falses
-    }
-}
-
-/// Whether a list has a validity.
-pub trait Validity {
-    fn word(values: u64, validity: u64) -> NullableWord;
-}
-
-/// A value is null where the validity is false.
-pub struct Present;
-
-/// No value is null, and what stands in the place of a validity isn't looked at.
-pub struct Absent;
-
-impl Validity for Present {
-    #[inline(always)]
-    fn word(values: u64, validity: u64) -> NullableWord {
-        NullableWord { trues: validity & values, falses: validity & !values }
-    }
-}
-
-impl Validity for Absent {
-    #[inline(always)]
-    fn word(values: u64, _validity: u64) -> NullableWord {
-        NullableWord { trues: values, falses: !values }
     }
 }
 
@@ -68,135 +49,6 @@ impl KleeneOp for KleeneOr {
     fn of(x: NullableWord, y: NullableWord) -> NullableWord {
         NullableWord { trues: x.trues | y.trues, falses: x.falses & y.falses }
     }
-}
-
-// A list of truth values with nulls: the bits of the values, and those of their validity. Where there is
-// no validity, those of the values stand in its place.
-#[derive(Clone, Copy)]
-struct NullableBits<'a> {
-    values: Bits<'a>,
-    validity: Bits<'a>,
-}
-
-impl<'a> NullableBits<'a> {
-    // The bits from two positions in some bytes on.
-    #[inline(always)]
-    fn new(values: (&'a [u8], usize), validity: (&'a [u8], usize)) -> NullableBits<'a> {
-        NullableBits {
-            values: Bits::new(values.0, values.1),
-            validity: Bits::new(validity.0, validity.1),
-        }
-    }
-
-    // Whether both begin at a whole byte.
-    #[inline(always)]
-    fn begin_whole(self) -> bool {
-        self.values.low == 0 && self.validity.low == 0
-    }
-
-    // How many of the whole words of both have another one beside them.
-    #[inline(always)]
-    fn neighbors(self) -> usize {
-        self.values.neighbors().min(self.validity.neighbors())
-    }
-
-    // The 64 values of word `i`.
-    #[inline(always)]
-    fn word<R: ReadWord, V: Validity>(self, i: usize) -> NullableWord {
-        self.word_proved::<R, V>(i)
-    }
-
-    #[inline(always)]
-    fn word_proved<R: ReadWord, V: Validity>(self, i: usize) -> NullableWord {
-        V::word(R::word(self.values, i), R::word(self.validity, i))
-    }
-}
-
-// Writes the first words.
-#[inline(always)]
-fn extend_whole<C: KleeneOp, V: Validity, W: Validity>(
-    a: NullableBits<'_>,
-    b: NullableBits<'_>,
-    words: usize,
-    values: &mut [u8],
-    validity: &mut [u8],
-) {
-    if a.begin_whole() && b.begin_whole() {
-        extend::<C, Whole, V, W>(a, b, 0, words, values, validity);
-    } else {
-        let inner = a.neighbors().min(b.neighbors()).min(words);
-        extend_inner::<C, V, W>(a, b, inner, values, validity);
-        extend::<C, Unaligned, V, W>(a, b, inner, words, values, validity);
-    }
-}
-
-// Writes words beside which there is another one.
-#[inline]
-fn extend_inner<C: KleeneOp, V: Validity, W: Validity>(
-    a: NullableBits<'_>,
-    b: NullableBits<'_>,
-    words: usize,
-    values: &mut [u8],
-    validity: &mut [u8],
-) {
-    crate::native::by_shifted_level!(
-        extend_inner_v3::<C, V, W>(a, b, words, values, validity),
-        extend_inner_any::<C, V, W>(a, b, words, values, validity)
-    )
-}
-
-#[cfg(target_arch = "x86_64")]
-#[target_feature(enable = "avx2,bmi1,bmi2,f16c,fma,lzcnt,movbe,popcnt")]
-fn extend_inner_v3<C: KleeneOp, V: Validity, W: Validity>(
-    a: NullableBits<'_>,
-    b: NullableBits<'_>,
-    words: usize,
-    values: &mut [u8],
-    validity: &mut [u8],
-) {
-    extend_inner_any::<C, V, W>(a, b, words, values, validity)
-}
-
-#[inline(always)]
-fn extend_inner_any<C: KleeneOp, V: Validity, W: Validity>(
-    a: NullableBits<'_>,
-    b: NullableBits<'_>,
-    words: usize,
-    values: &mut [u8],
-    validity: &mut [u8],
-) {
-    extend::<C, Neighbors, V, W>(a, b, 0, words, values, validity);
-}
-
-// Writes words `from` to `to`, where those before are written.
-#[inline(always)]
-fn extend<C: KleeneOp, R: ReadWord, V: Validity, W: Validity>(
-    a: NullableBits<'_>,
-    b: NullableBits<'_>,
-    from: usize,
-    to: usize,
-    values: &mut [u8],
-    validity: &mut [u8],
-) {
-    for i in from..to {
-        let word = C::of(a.word_proved::<R, V>(i), b.word_proved::<R, W>(i));
-        set_word(values, i, word.trues);
-        set_word(validity, i, word.valid());
-    }
-}
-
-// Writes what the table has for the `len` values from the first bits on.
-#[inline(always)]
-fn combine_bits<C: KleeneOp, V: Validity, W: Validity>(
-    a: NullableBits<'_>,
-    b: NullableBits<'_>,
-    len: usize,
-    values: &mut [u8],
-    validity: &mut [u8],
-) {
-    let (whole, words) = (len / 64, started_words(len));
-    extend_whole::<C, V, W>(a, b, whole, values, validity);
-    extend::<C, Anywhere, V, W>(a, b, whole, words, values, validity);
 }
 
 /// Truth values with nulls, over plain bytes: the bytes of the values and the position of the first, and
@@ -230,8 +82,8 @@ impl<'a> NullableBitmap<'a> {
     fn word_proved(self) -> NullableWord {
         let values = word_at(self.values.0, self.values.1);
         match self.validity {
-            Some(validity) => Present::word(values, word_at(validity.0, validity.1)),
-            None => Absent::word(values, values),
+            Some(validity) => NullableWord::new(values, word_at(validity.0, validity.1)),
+            None => NullableWord::new(values, u64::MAX),
         }
     }
 }
@@ -246,6 +98,126 @@ pub fn combine_kleene_word<C: KleeneOp>(
 ) -> (u64, u64) {
     let word = C::of(a.word_proved(), b.word_proved());
     (word.trues, word.valid())
+}
+
+// The bits of the values, and those of their validity, where a value is valid too if its bit of `valid` is
+// set, one of each 64. Where there is no validity, the values stand in its place, and all are valid. So one
+// loop serves lists with a validity and without one.
+#[derive(Clone, Copy)]
+struct NullableBits<'a> {
+    values: Bits<'a>,
+    validity: Bits<'a>,
+    valid: u64,
+}
+
+impl<'a> NullableBits<'a> {
+    // The bits of some bytes.
+    #[inline(always)]
+    fn new(list: NullableBitmap<'a>) -> NullableBits<'a> {
+        let values = Bits::new(list.values.0, list.values.1);
+        match list.validity {
+            Some(validity) => {
+                NullableBits { values, validity: Bits::new(validity.0, validity.1), valid: 0 }
+            }
+            None => NullableBits { values, validity: values, valid: u64::MAX },
+        }
+    }
+
+    // Whether both begin at a whole byte.
+    #[inline(always)]
+    fn begin_whole(self) -> bool {
+        self.values.low == 0 && self.validity.low == 0
+    }
+
+    // How many of the whole words of both have another one beside them.
+    #[inline(always)]
+    fn neighbors(self) -> usize {
+        self.values.neighbors().min(self.validity.neighbors())
+    }
+
+    // The 64 values of word `i`.
+    #[inline(always)]
+    fn word<R: ReadWord>(self, i: usize) -> NullableWord {
+        self.word_proved::<R>(i)
+    }
+
+    #[inline(always)]
+    fn word_proved<R: ReadWord>(self, i: usize) -> NullableWord {
+        NullableWord::new(R::word(self.values, i), R::word(self.validity, i) | self.valid)
+    }
+}
+
+// Writes the first words.
+#[inline(always)]
+fn extend_whole<C: KleeneOp>(
+    a: NullableBits<'_>,
+    b: NullableBits<'_>,
+    words: usize,
+    values: &mut [u8],
+    validity: &mut [u8],
+) {
+    if a.begin_whole() && b.begin_whole() {
+        extend::<C, Whole>(a, b, 0, words, values, validity);
+    } else {
+        let inner = a.neighbors().min(b.neighbors()).min(words);
+        extend_inner::<C>(a, b, inner, values, validity);
+        extend::<C, Unaligned>(a, b, inner, words, values, validity);
+    }
+}
+
+// Writes words beside which there is another one.
+#[inline]
+fn extend_inner<C: KleeneOp>(
+    a: NullableBits<'_>,
+    b: NullableBits<'_>,
+    words: usize,
+    values: &mut [u8],
+    validity: &mut [u8],
+) {
+    crate::native::by_shifted_level!(
+        extend_inner_v3::<C>(a, b, words, values, validity),
+        extend_inner_any::<C>(a, b, words, values, validity)
+    )
+}
+
+#[cfg(target_arch = "x86_64")]
+#[target_feature(enable = "avx2,bmi1,bmi2,f16c,fma,lzcnt,movbe,popcnt")]
+fn extend_inner_v3<C: KleeneOp>(
+    a: NullableBits<'_>,
+    b: NullableBits<'_>,
+    words: usize,
+    values: &mut [u8],
+    validity: &mut [u8],
+) {
+    extend_inner_any::<C>(a, b, words, values, validity)
+}
+
+#[inline(always)]
+fn extend_inner_any<C: KleeneOp>(
+    a: NullableBits<'_>,
+    b: NullableBits<'_>,
+    words: usize,
+    values: &mut [u8],
+    validity: &mut [u8],
+) {
+    extend::<C, Neighbors>(a, b, 0, words, values, validity);
+}
+
+// Writes words `from` to `to`, where those before are written.
+#[inline(always)]
+fn extend<C: KleeneOp, R: ReadWord>(
+    a: NullableBits<'_>,
+    b: NullableBits<'_>,
+    from: usize,
+    to: usize,
+    values: &mut [u8],
+    validity: &mut [u8],
+) {
+    for i in from..to {
+        let word = C::of(a.word_proved::<R>(i), b.word_proved::<R>(i));
+        set_word(values, i, word.trues);
+        set_word(validity, i, word.valid());
+    }
 }
 
 /// Writes what the table of `C` has for each of the `len` values of `a` and of `b` to the front of
@@ -286,34 +258,8 @@ fn combine_kleene_any<C: KleeneOp>(
     values: &mut [u8],
     validity: &mut [u8],
 ) {
-    match (a.validity, b.validity) {
-        (Some(v), Some(w)) => combine_bits::<C, Present, Present>(
-            NullableBits::new(a.values, v),
-            NullableBits::new(b.values, w),
-            len,
-            values,
-            validity,
-        ),
-        (Some(v), None) => combine_bits::<C, Present, Absent>(
-            NullableBits::new(a.values, v),
-            NullableBits::new(b.values, b.values),
-            len,
-            values,
-            validity,
-        ),
-        (None, Some(w)) => combine_bits::<C, Absent, Present>(
-            NullableBits::new(a.values, a.values),
-            NullableBits::new(b.values, w),
-            len,
-            values,
-            validity,
-        ),
-        (None, None) => combine_bits::<C, Absent, Absent>(
-            NullableBits::new(a.values, a.values),
-            NullableBits::new(b.values, b.values),
-            len,
-            values,
-            validity,
-        ),
-    }
+    let (a, b) = (NullableBits::new(a), NullableBits::new(b));
+    let (whole, words) = (len / 64, started_words(len));
+    extend_whole::<C>(a, b, whole, values, validity);
+    extend::<C, Anywhere>(a, b, whole, words, values, validity);
 }
