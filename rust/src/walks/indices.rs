@@ -120,17 +120,25 @@ impl Iterator for Indices<'_> {
     // word by word, for `sum`, `for_each` and the like
     #[inline]
     fn fold<B, F: FnMut(B, usize) -> B>(self, init: B, mut f: F) -> B {
-        let (words, start) = (self.words.as_slice(), self.end.wrapping_sub(64 * self.words.len()));
-        let words = (0..words.len()).map(|k| (u64::from_le_bytes(words[k]), start + 64 * k));
-        let words = [(self.left(), self.first)].into_iter().chain(words);
-        words.chain([(self.back, self.end)]).fold(init, |mut folded, (mut word, first)| {
-            while word != 0 {
-                folded = f(folded, first.wrapping_add(word.trailing_zeros() as usize));
-                word &= word - 1;
-            }
-            folded
-        })
+        let mut first = self.end.wrapping_sub(64 * self.words.len());
+        let mut folded = fold_word(init, self.left(), self.first, &mut f);
+        for bytes in self.words {
+            folded = fold_word(folded, u64::from_le_bytes(*bytes), first, &mut f);
+            first = first.wrapping_add(64);
+        }
+        fold_word(folded, self.back, self.end, &mut f)
     }
+}
+
+// (a call for each word would take longer than all else where few values are true)
+#[inline(always)]
+fn fold_word<B>(init: B, mut word: u64, first: usize, f: &mut impl FnMut(B, usize) -> B) -> B {
+    let mut folded = init;
+    while word != 0 {
+        folded = f(folded, first.wrapping_add(word.trailing_zeros() as usize));
+        word &= word - 1;
+    }
+    folded
 }
 
 impl DoubleEndedIterator for Indices<'_> {
