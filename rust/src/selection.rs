@@ -49,6 +49,9 @@ enum Kept {
 // To copy a run at once pays where runs have so many values, taken together. Fewer take less time one by one.
 pub(crate) const OF_A_RUN: usize = 24;
 
+// Of so few values, their indices take the least time.
+const FEW_VALUES: usize = 128;
+
 impl Kept {
     // Of a bitmap that begins at bit 0, and has so many true values.
     fn of(bitmap: Bitmap<'_>, count: usize) -> Result<Kept, Error> {
@@ -208,6 +211,9 @@ impl Selection {
 
     // Writes each place. There is a row for each value, and a place for each true one.
     fn choose_to<T: Row>(&self, rows: &[T], out: &mut [MaybeUninit<T>]) {
+        if self.is_dense() && self.as_bitmap().choose_several(rows, out) {
+            return;
+        }
         let cells = as_cells(rows);
         match &self.kept {
             Kept::Word(word) => push_rows_one_by_one(&mut Lent { out, at: 0 }, cells, *word),
@@ -215,6 +221,12 @@ impl Selection {
             // (each is the index of a true value, and there is a row for each value)
             Kept::Indices(indices) => mask_c::rows_at(indices, cells, out),
         }
+    }
+
+    // Whether the words of the bitmap take less time than its indices, where several rows are moved at once.
+    fn is_dense(&self) -> bool {
+        let is_of_indices = matches!(self.kept, Kept::Indices(_));
+        is_of_indices && self.len() > FEW_VALUES && self.count / 3 >= self.len() / 8
     }
 
     // Calls a function with the indices, block after block of them, as the proved loops take them.

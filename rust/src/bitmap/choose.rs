@@ -108,33 +108,44 @@ impl Bitmap<'_> {
 
     // Writes each place. There is a row for each value, and just as many places as values are true.
     fn choose_to<T: Row>(self, rows: &[T], out: &mut [MaybeUninit<T>]) {
-        let has_many = out.len() >= self.len / ONE_TRUE_IN;
+        if out.len() >= self.len / ONE_TRUE_IN && self.choose_several(rows, out) {
+            return;
+        }
         // (between two runs there is a false value at least)
         let of_a_run = if self.len > ANY_LEVEL { OF_A_LONG_RUN } else { OF_A_RUN };
-        let has_long_runs = (self.len - out.len()).saturating_mul(of_a_run) <= out.len();
-        match size_of::<T>() {
-            1 if has_many && moves_bytes() => {
-                // SAFETY: a row is a byte that is written, as `Row` says. Each place gets one, and none is read before.
-                let (rows, out) = unsafe { as_byte_rows(rows, out) };
-                self.choose_several::<FEW_BYTES, u8, Moved>(rows, out);
-            }
-            #[cfg(target_arch = "x86_64")]
-            4 if has_many && moves_fours() => {
-                // SAFETY: a row is four such bytes. Each place gets a row's, and none is read before.
-                let (rows, out) = unsafe { as_byte_rows(rows, out) };
-                self.choose_several::<FEW_FOURS, [u8; 4], Moved>(rows, out);
-            }
-            _ if has_long_runs => copy_runs(as_cells(rows), self.runs(), out),
-            _ => {
-                let mut room = Lent { out, at: 0 };
-                choose_rows::<0, _, _>(&mut room, as_cells(rows), &self.chunks());
-            }
+        if (self.len - out.len()).saturating_mul(of_a_run) <= out.len() {
+            copy_runs(as_cells(rows), self.runs(), out);
+        } else {
+            let mut room = Lent { out, at: 0 };
+            choose_rows::<0, _, _>(&mut room, as_cells(rows), &self.chunks());
         }
     }
 
-    // The same of small rows, several at once. (Inlined, it would slow down the other loop.)
+    // Writes each place, where several rows of this size are moved at once, and says whether they are. There is a row for
+    // each value, and just as many places as values are true.
+    #[inline]
+    pub(crate) fn choose_several<T: Row>(self, rows: &[T], out: &mut [MaybeUninit<T>]) -> bool {
+        match size_of::<T>() {
+            1 if moves_bytes() => {
+                // SAFETY: a row is a byte that is written, as `Row` says. Each place gets one, and none is read before.
+                let (rows, out) = unsafe { as_byte_rows(rows, out) };
+                self.move_several::<FEW_BYTES, u8, Moved>(rows, out);
+                true
+            }
+            #[cfg(target_arch = "x86_64")]
+            4 if moves_fours() => {
+                // SAFETY: a row is four such bytes. Each place gets a row's, and none is read before.
+                let (rows, out) = unsafe { as_byte_rows(rows, out) };
+                self.move_several::<FEW_FOURS, [u8; 4], Moved>(rows, out);
+                true
+            }
+            _ => false,
+        }
+    }
+
+    // The same of rows of bytes. (Inlined, it would slow down the loop beside it.)
     #[inline(never)]
-    fn choose_several<const FEW: usize, T: Copy, M: MoveRows<T>>(self, rows: &[T], out: &mut [T]) {
+    fn move_several<const FEW: usize, T: Copy, M: MoveRows<T>>(self, rows: &[T], out: &mut [T]) {
         choose_small_rows::<FEW, M, _, _>(&mut Lent { out, at: 0 }, rows, &self.chunks());
     }
 }
