@@ -7,6 +7,8 @@ from erasing.tokens import TOKEN
 
 # What x86-64-v3 has above plain x86-64, as far as loops gain by it.
 FEATURES = "avx2,bmi1,bmi2,f16c,fma,lzcnt,movbe,popcnt"
+# What x86-64-v4 has above that.
+MORE_FEATURES = "avx512f,avx512bw,avx512cd,avx512dq,avx512vl"
 
 
 def levelled(function, of, body, marked):
@@ -26,23 +28,31 @@ def levelled(function, of, body, marked):
     #[inline(always)]
     fn f_any(a: u8) { g(a) }
     """
-    v3, of_any = (f"{function.name}_{it}" for it in ("v3", "any"))
+    v4, v3, of_any = (f"{function.name}_{it}" for it in ("v4", "v3", "any"))
     place = "Self" if of else None
     calls = [function.call(it, place, []) for it in (v3, of_any)]
     by_pext = function.call(f"{function.name}_by_pext", place, []) + ", " if marked.has("copied by PEXT") else ""
     body = inner(body)
+    copy = f"""#[cfg(target_arch = "x86_64")]
+#[target_feature(enable = "{FEATURES}")]
+#[target_feature(enable = "{MORE_FEATURES}")]
+{function.signature(v4, "")} {{ {calls[1]} }}
+
+""" if marked.to_v4 else ""
     more = f"""
 
 #[cfg(target_arch = "x86_64")]
 #[target_feature(enable = "{FEATURES}")]
 {function.signature(v3, "")} {{ {calls[1]} }}
 
-#[inline(always)]
+{copy}#[inline(always)]
 {function.signature(of_any, "pub(crate) " if marked.has("called at its level") else "")} {body}
 """
     which = marked.level
+    if marked.to_v4:
+        which, by_pext = f"{which}_to_v4", function.call(v4, place, []) + ", "
     if marked.much:
-        which, by_pext = f"{which}_if", f"{marked.much}, "
+        which, by_pext = f"{which}_if", f"{marked.much}, {by_pext if marked.to_v4 else ''}"
     return f"{{ crate::native::by_{which}!({by_pext}{calls[0]}, {calls[1]}) }}", more
 
 

@@ -5,6 +5,7 @@
 | `// rust: level` | a copy that is compiled for x86-64-v3, and a call that goes to it where the processor has that |
 | `// rust: wide level` | the same of a loop over vectors alone: a program for x86-64-v2 takes its own |
 | `// rust: shifted level` | the same of what shifts words within such a loop: just such a program takes the copy |
+| `.. to v4` | another copy for x86-64-v4, which goes first |
 | `.. if CONDITION` | the copy is called only where there is so much to do that it pays to ask |
 | `.. alone` | what it calls isn't inlined always |
 | `// rust: called at its level` | a levelled function goes on to the copy of its own level |
@@ -31,7 +32,7 @@ from erasing.tokens import Fault
 
 CRATES = Path(__file__).resolve().parents[2] / "crates"
 LINE = re.compile(r"^[ \t]*// rust:(.*)\n", re.M)
-LEVEL = re.compile(r"(wide |shifted )?level(?: if (.+?))?( alone)?")
+LEVEL = re.compile(r"(?P<kind>wide |shifted )?level(?P<v4> to v4)?(?: if (?P<much>.+?))?(?P<alone> alone)?")
 TOLD = re.compile(r"(?:(\w+) )?(needs|says) (\S.*)")
 NAMED = re.compile(r"named (\w+)")
 INSTEAD = re.compile(r"(replaced by|by PEXT|by PDEP) ((?:\w+::)*\w+)")
@@ -45,6 +46,8 @@ class Marks:
     >>> marks = Marks(["wide level if len > 128", "visible"])
     >>> marks.level, marks.much, marks.alone, marks.has("visible"), marks.has("inline")
     ('wide_level', 'len > 128', False, True, False)
+    >>> marks.to_v4, Marks(["level to v4 if len > 128"]).to_v4
+    (False, True)
     >>> Marks(["within needs `a < b`", "says No {} of {}"]).told
     {'within': ('needs', '`a < b`'), None: ('says', 'No {} of {}')}
     >>> Marks(["named try_clone"]).named
@@ -59,7 +62,7 @@ class Marks:
     def __init__(self, words=()):
         self.text = ", ".join(words)
         self.level = self.much = self.named = None
-        self.alone = False
+        self.alone = self.to_v4 = False
         self.others = set()
         # what is said where a condition is broken, by the condition's name
         self.told = {}
@@ -70,8 +73,8 @@ class Marks:
             if told and told[1] not in self.told:
                 self.told[told[1]] = (told[2], told[3])
             elif match and self.level is None:
-                self.level = f"{(match[1] or '').strip()}_level".lstrip("_")
-                self.much, self.alone = match[2], bool(match[3])
+                self.level = f"{(match['kind'] or '').strip()}_level".lstrip("_")
+                self.to_v4, self.much, self.alone = bool(match["v4"]), match["much"], bool(match["alone"])
             elif (match := NAMED.fullmatch(it)) and self.named is None:
                 self.named = match[1]
             elif (match := INSTEAD.fullmatch(it)) and match[1] not in self.instead:

@@ -3,13 +3,14 @@ conditions, one that tests them and one that has the body."""
 from rereading.clauses import Test
 from rereading.functions import INTO_ITER
 from rereading.lexer import Unexplained, words_of
-from rereading.rules import FEATURES, KEPT, NATIVE
+from rereading.rules import FEATURES, KEPT, MORE_FEATURES, NATIVE
 
 ALWAYS, INLINE, TRACKED, HIDDEN = (
     words_of(f"#[{it}]") for it in ("inline(always)", "inline", "track_caller", "doc(hidden)")
 )
 ON_X86 = words_of('#[cfg(target_arch = "x86_64")]')
 BY_FEATURES = words_of(f"#[target_feature(enable = {FEATURES})]")
+BY_MORE_FEATURES = words_of(f"#[target_feature(enable = {MORE_FEATURES})]")
 OURS = words_of("pub(crate)")
 
 
@@ -87,17 +88,20 @@ class Form:
         marks, place = self.marks, "Self" if self.of else None
         if not marks.alone:
             self.package.roots.add(f"{self.name}_any")
-        calls = {it: self.function.call(f"{self.name}_{it}", place) for it in ("v3", "any", "by_pext")}
+        calls = {it: self.function.call(f"{self.name}_{it}", place) for it in ("v3", "v4", "any", "by_pext")}
         which, first = f"by_{marks.level}", []
+        if marks.to_v4:
+            which, first = f"{which}_to_v4", [*calls["v4"], ","]
         if marks.much:
-            which, first = f"{which}_if", [*words_of(marks.much), ","]
+            which, first = f"{which}_if", [*words_of(marks.much), ",", *(first if marks.to_v4 else [])]
         elif marks.has("copied by PEXT"):
             first = [*calls["by_pext"], ","]
         goes_to = [*words_of(f"{NATIVE}::{which}!"), "(", *first, *calls["v3"], ",", *calls["any"], ")"]
         self.body = ["{", *goes_to, "}"]
         ours = OURS if marks.has("called at its level") else []
         v3 = [*ON_X86, *BY_FEATURES, *self.function.signature(f"{self.name}_v3"), "{", *calls["any"], "}"]
-        return [*v3, *ALWAYS, *ours, *of_any]
+        v4 = [*ON_X86, *BY_FEATURES, *BY_MORE_FEATURES, *self.function.signature(f"{self.name}_v4"), "{", *calls["any"], "}"]
+        return [*v3, *(v4 if marks.to_v4 else []), *ALWAYS, *ours, *of_any]
 
     # ---- public calls
 

@@ -85,6 +85,7 @@ IN_SCOPE = {"mask_tests": ["crate::host::AllocGlobal", "crate::host::Input", "cr
 NATIVE, TESTS = "crate::native", "crate::conditions"
 SAFETY = "// SAFETY: its answers are proved to be as the contract says."
 FEATURES = '"avx2,bmi1,bmi2,f16c,fma,lzcnt,movbe,popcnt"'
+MORE_FEATURES = '"avx512f,avx512bw,avx512cd,avx512dq,avx512vl"'
 
 # Methods of Rust's own lists, texts and iterators that end the program where memory is refused: calls, definitions and
 # paths of these names have others, of a proved type's own too, so that types tell which is meant.

@@ -1,5 +1,5 @@
-//! What the processor has that a program runs on, where it isn't compiled for that: x86-64-v3, and the instructions PDEP
-//! and PEXT where these are quick. All of it is written by hand, and trusted. `README.md` lists all that is.
+//! What the processor has that a program runs on, where it isn't compiled for that: x86-64-v3, x86-64-v4, and the
+//! instructions PDEP and PEXT where these are quick. All of it is written by hand, and trusted. `README.md` lists all that is.
 //!
 //! `features` asks the processor, `levels` has calls of what is compiled for it, and `instructions` has the instructions.
 //! These import nothing of the package but each other. `deposits`, `extracts` and `processor` stand in the places of proved
@@ -23,5 +23,8 @@ pub(crate) use deposits::{by_loop, quickest, quickest_path};
 pub(crate) use extracts::{extract, put_pairs};
 pub(crate) use features::has_quick_bits;
 #[cfg(target_arch = "x86_64")]
-pub(crate) use features::has_v3;
-pub(crate) use levels::{by_level, by_level_if, by_shifted_level, by_wide_level_if, levelled};
+pub(crate) use features::{has_v3, has_v4};
+pub(crate) use levels::{
+    by_level, by_level_if, by_level_to_v4, by_level_to_v4_if, by_shifted_level, by_wide_level_if,
+    levelled,
+};

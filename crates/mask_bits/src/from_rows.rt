@@ -22,7 +22,7 @@ const WIDE: usize = 64 * 8;
 impl BitBuffer {
     /// What a test answers of each row, in their order: value `i` is its answer of row `i`. The
     /// answers are packed as they come, 64 to a word, and are listed nowhere else.
-    // rust: level
+    // rust: level to v4
     // rust: named try_from_rows
     pub fn from_rows<T, F: Fn(&T) -> bool>(
         alloc: Global,

@@ -1,7 +1,7 @@
 //! Rows and values chosen at the true values.
 
 use super::room::{append_to, as_cells, as_places, first_of, list_of, made};
-use crate::native::processor::{Moved, moves_bytes, moves_fours};
+use crate::native::processor::{Moved, moves_bytes, moves_eights, moves_fours};
 use crate::proved::mask_bits::push_rows::{choose_rows, choose_small_rows};
 use crate::proved::mask_bits::room::Lent;
 use crate::proved::mask_bits::small_rows::MoveRows;
@@ -16,9 +16,15 @@ use core::slice;
 // takes longer than is gained.
 const ONE_TRUE_IN: usize = 8;
 
-// They are in words of so many true values or more, of rows of one byte and of four. Fewer take less time one by one.
+// They are in words of so many true values or more, of rows of one byte, of four and of eight. Fewer take less time one by
+// one.
 const FEW_BYTES: usize = 6;
 const FEW_FOURS: usize = 8;
+const FEW_EIGHTS: usize = 10;
+
+// Rows of eight bytes are where three in so many values are true, of more values than these.
+const THREE_TRUE_IN: usize = 8;
+const FEW_VALUES: usize = 512;
 
 // The loop over words is compiled for x86-64-v3 too, which it asks for of more values than these (see `choose_rows`).
 const ANY_LEVEL: usize = 128;
@@ -108,12 +114,15 @@ impl Bitmap<'_> {
 
     // Writes each place. There is a row for each value, and just as many places as values are true.
     fn choose_to<T: Row>(self, rows: &[T], out: &mut [MaybeUninit<T>]) {
-        if out.len() >= self.len / ONE_TRUE_IN && self.choose_several(rows, out) {
-            return;
-        }
         // (between two runs there is a false value at least)
         let of_a_run = if self.len > ANY_LEVEL { OF_A_LONG_RUN } else { OF_A_RUN };
-        if (self.len - out.len()).saturating_mul(of_a_run) <= out.len() {
+        let has_long_runs = (self.len - out.len()).saturating_mul(of_a_run) <= out.len();
+        let has_many = out.len() >= self.len / ONE_TRUE_IN;
+        let is_small = size_of::<T>() <= 4 || !has_long_runs;
+        if has_many && is_small && self.choose_several(rows, out) {
+            return;
+        }
+        if has_long_runs {
             copy_runs(as_cells(rows), self.runs(), out);
         } else {
             let mut room = Lent { out, at: 0 };
@@ -139,8 +148,20 @@ impl Bitmap<'_> {
                 self.move_several::<FEW_FOURS, [u8; 4], Moved>(rows, out);
                 true
             }
+            #[cfg(target_arch = "x86_64")]
+            8 if moves_eights() && self.has_many_eights(out.len()) => {
+                // SAFETY: a row is eight such bytes. Each place gets a row's, and none is read before.
+                let (rows, out) = unsafe { as_byte_rows(rows, out) };
+                self.move_several::<FEW_EIGHTS, [u8; 8], Moved>(rows, out);
+                true
+            }
             _ => false,
         }
+    }
+
+    #[cfg(target_arch = "x86_64")]
+    fn has_many_eights(self, count: usize) -> bool {
+        self.len > FEW_VALUES && count / 3 >= self.len / THREE_TRUE_IN
     }
 
     // The same of rows of bytes. (Inlined, it would slow down the loop beside it.)

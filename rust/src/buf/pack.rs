@@ -83,7 +83,7 @@ levelled! {
 
 // Writes each byte of what is asked of rows, to just the bytes that they take.
 levelled! {
-    where rows.len() > FEW;
+    to v4 where rows.len() > FEW;
     pub(super) fn pack_rows<T>(rows: &[T], is_true: impl FnMut(&T) -> bool, out: &mut [u8]) {
         let (is_true, (whole, rest)) = (&mut { is_true }, rows.as_chunks::<64>());
         let (words, last) = out.split_at_mut(8 * whole.len());

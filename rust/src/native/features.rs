@@ -8,6 +8,13 @@ pub(crate) fn has_v3() -> bool {
     cfg!(not(target_feature = "avx2")) && found::all() & found::V3 != 0
 }
 
+/// Whether the processor has AVX-512 too, as far as x86-64-v4 has it, where a program isn't compiled for that anyway.
+#[cfg(target_arch = "x86_64")]
+#[inline(always)]
+pub(crate) fn has_v4() -> bool {
+    cfg!(not(target_feature = "avx512vl")) && found::all() & found::V4 != 0
+}
+
 /// Whether the processor has PDEP and PEXT in a few cycles, and x86-64-v3.
 #[inline(always)]
 pub(crate) fn has_quick_bits() -> bool {
@@ -25,6 +32,7 @@ pub(super) mod found {
     const KNOWN: u8 = 1;
     pub(in super::super) const V3: u8 = 2;
     pub(in super::super) const QUICK_BITS: u8 = 4;
+    pub(in super::super) const V4: u8 = 8;
 
     static FOUND: AtomicU8 = AtomicU8::new(0);
 
@@ -57,25 +65,31 @@ pub(super) mod found {
         let mut found = KNOWN;
         if !cfg!(row_mask_one_level) && has_v3() {
             found |= V3 | if is_before_zen_3() { 0 } else { QUICK_BITS };
+            found |= if has_avx512() { V4 } else { 0 };
         }
         FOUND.store(found, Relaxed);
         found
     }
 
     // Whether the processor has each feature; without `std`, which asks it, whether the program is compiled for each.
+    macro_rules! has {
+        ($($feature:tt)*) => {
+            $({
+                #[cfg(feature = "std")]
+                let has = std::arch::is_x86_feature_detected!($feature);
+                #[cfg(not(feature = "std"))]
+                let has = cfg!(target_feature = $feature);
+                has
+            })&&*
+        };
+    }
+
     fn has_v3() -> bool {
-        macro_rules! has {
-            ($($feature:tt)*) => {
-                $({
-                    #[cfg(feature = "std")]
-                    let has = std::arch::is_x86_feature_detected!($feature);
-                    #[cfg(not(feature = "std"))]
-                    let has = cfg!(target_feature = $feature);
-                    has
-                })&&*
-            };
-        }
         has!("avx2" "bmi1" "bmi2" "f16c" "fma" "lzcnt" "movbe" "popcnt")
+    }
+
+    fn has_avx512() -> bool {
+        has!("avx512f" "avx512bw" "avx512cd" "avx512dq" "avx512vl")
     }
 
     // AMD's processors before Zen 3 take up to hundreds of cycles for PDEP and PEXT.

@@ -1,4 +1,4 @@
-//! Calls of functions that are compiled twice: for what the program is compiled for, and for what the processor has.
+//! Calls of functions that are compiled twice or more: for what the program is compiled for, and for what the processor has.
 
 /// Calls the function that is compiled for what the processor has: where PEXT is quick, for x86-64-v3, or for any.
 macro_rules! by_level {
@@ -16,6 +16,27 @@ macro_rules! by_level {
 }
 pub(crate) use by_level;
 
+/// The same of one that is compiled for x86-64-v4 too, which has AVX-512.
+macro_rules! by_level_to_v4 {
+    ($v4:expr, $v3:expr, $any:expr) => {
+        crate::native::by_level_to_v4_if!(true, $v4, $v3, $any)
+    };
+}
+pub(crate) use by_level_to_v4;
+
+/// The same where a condition tells whether there is so much to do that it pays to ask.
+macro_rules! by_level_to_v4_if {
+    ($much:expr, $v4:expr, $v3:expr, $any:expr) => {{
+        #[cfg(target_arch = "x86_64")]
+        if $much && crate::native::has_v4() {
+            // SAFETY: the processor has what it is compiled for.
+            return unsafe { $v4 };
+        }
+        crate::native::by_level_if!($much, $v3, $any)
+    }};
+}
+pub(crate) use by_level_to_v4_if;
+
 /// The same of two, where a condition tells whether there is so much to do that it pays to ask.
 macro_rules! by_level_if {
     ($much:expr, $v3:expr, $any:expr) => {{
@@ -29,11 +50,38 @@ macro_rules! by_level_if {
 }
 pub(crate) use by_level_if;
 
-/// A function with a copy that is compiled for x86-64-v3, which is called where the processor has that, and there is so
-/// much to do that it pays to ask.
+/// A function with a copy that is compiled for x86-64-v3, and `to v4` with one for that, which are called where the processor
+/// has that, and there is so much to do that it pays to ask.
 macro_rules! levelled {
     ($visible:vis fn $($rest:tt)+) => {
         crate::native::levelled! { where true; $visible fn $($rest)+ }
+    };
+    (
+        to v4 where $much:expr;
+        $visible:vis fn $call:ident $(<$($row:ident),+>)?($($argument:ident: $type:ty),+ $(,)?)
+            $(-> $result:ty)? $body:block
+    ) => {
+        #[allow(clippy::semicolon_if_nothing_returned, reason = "some return something")]
+        $visible fn $call $(<$($row),+>)?($($argument: $type),+) $(-> $result)? {
+            #[allow(clippy::inline_always, reason = "a copy is compiled for what the function around it has")]
+            #[inline(always)]
+            fn any $(<$($row),+>)?($($argument: $type),+) $(-> $result)? $body
+
+            #[cfg(target_arch = "x86_64")]
+            #[target_feature(enable = "avx2,bmi1,bmi2,f16c,fma,lzcnt,movbe,popcnt")]
+            fn v3 $(<$($row),+>)?($($argument: $type),+) $(-> $result)? {
+                any($($argument),+)
+            }
+
+            #[cfg(target_arch = "x86_64")]
+            #[target_feature(enable = "avx2,bmi1,bmi2,f16c,fma,lzcnt,movbe,popcnt")]
+            #[target_feature(enable = "avx512f,avx512bw,avx512cd,avx512dq,avx512vl")]
+            fn v4 $(<$($row),+>)?($($argument: $type),+) $(-> $result)? {
+                any($($argument),+)
+            }
+
+            crate::native::by_level_to_v4_if!($much, v4($($argument),+), v3($($argument),+), any($($argument),+))
+        }
     };
     (
         where $much:expr;

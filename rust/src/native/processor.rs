@@ -4,7 +4,7 @@
 
 use super::has_quick_bits;
 #[cfg(target_arch = "x86_64")]
-use super::{has_v3, instructions};
+use super::{has_v3, has_v4, instructions};
 #[cfg(target_arch = "x86_64")]
 use crate::proved::mask_bits::byte_places::places_of;
 use crate::proved::mask_bits::room::Room;
@@ -28,6 +28,15 @@ pub(crate) fn moves_fours() -> bool {
     return false;
 }
 
+/// Whether several rows of eight bytes are: by an instruction of AVX-512.
+#[inline(always)]
+pub(crate) fn moves_eights() -> bool {
+    #[cfg(target_arch = "x86_64")]
+    return cfg!(target_feature = "avx512f") || has_v4();
+    #[cfg(not(target_arch = "x86_64"))]
+    return false;
+}
+
 /// What moves them, where the answer is yes.
 pub struct Moved;
 
@@ -47,6 +56,14 @@ impl MoveRows<[u8; 4]> for Moved {
     #[inline(always)]
     fn push_byte<R: Room<[u8; 4]>>(out: &mut R, rows: &[[u8; 4]], byte: u8) {
         push_first(out, instructions::fours_at(rows, places_of(byte).to_array()), byte);
+    }
+}
+
+#[cfg(target_arch = "x86_64")]
+impl MoveRows<[u8; 8]> for Moved {
+    #[inline(always)]
+    fn push_byte<R: Room<[u8; 8]>>(out: &mut R, rows: &[[u8; 8]], byte: u8) {
+        push_first(out, instructions::eights_at(rows, byte), byte);
     }
 }
 

@@ -1,18 +1,19 @@
-//! Each call that goes by what the processor has, with all of it, without PDEP and PEXT, and without x86-64-v3.
+//! Each call that goes by what the processor has, with all of it, without AVX-512, without PDEP and PEXT, and without
+//! x86-64-v3.
 
-use super::features::found::{MOST, QUICK_BITS, V3};
+use super::features::found::{MOST, QUICK_BITS, V3, V4};
 use crate::{BitBuffer, Bitmap, BitmapBuf, Mask, Row};
 
 /// A call gives the same whatever the processor has.
 fn same<T: PartialEq + std::fmt::Debug>(call: impl Fn() -> T) {
-    let mut gives = [0, V3, V3 | QUICK_BITS].map(|most| {
-        MOST.set(most);
-        call()
-    });
+    let [none, no_bits, no_avx512, all] =
+        [0, V3, V3 | QUICK_BITS, V3 | QUICK_BITS | V4].map(|most| {
+            MOST.set(most);
+            call()
+        });
     MOST.set(u8::MAX);
-    gives.reverse();
-    let [all, no_bits, none] = gives;
-    assert_eq!(all, no_bits);
+    assert_eq!(all, no_avx512);
+    assert_eq!(no_avx512, no_bits);
     assert_eq!(no_bits, none);
 }
 
@@ -92,6 +93,8 @@ fn choosing_small_rows() {
         chosen(a, |i| u32::try_from(i).unwrap().wrapping_mul(0x9E37_79B9));
         chosen(a, |i| [i.to_le_bytes()[0], 7, i.to_le_bytes()[1], 9]);
         chosen(a, |i| char::from(i.to_le_bytes()[0]));
+        chosen(a, |i| i.wrapping_mul(0x9E37_79B9_7F4A_7C15));
+        chosen(a, |i| [f32::from(i.to_le_bytes()[0]), f32::from(i.to_le_bytes()[1])]);
     });
 }
 

@@ -84,8 +84,9 @@ pub(crate) fn and_rows_in_place<T, F: FnMut(&T) -> bool>(
     rows: &[T],
     test: &mut F,
 ) {
-    crate::native::by_level_if!(
+    crate::native::by_level_to_v4_if!(
         rows.len() > 128,
+        and_rows_in_place_v4::<T, F>(bytes, rows, test),
         and_rows_in_place_v3::<T, F>(bytes, rows, test),
         and_rows_in_place_any::<T, F>(bytes, rows, test)
     )
@@ -94,6 +95,13 @@ pub(crate) fn and_rows_in_place<T, F: FnMut(&T) -> bool>(
 #[cfg(target_arch = "x86_64")]
 #[target_feature(enable = "avx2,bmi1,bmi2,f16c,fma,lzcnt,movbe,popcnt")]
 fn and_rows_in_place_v3<T, F: FnMut(&T) -> bool>(bytes: &mut [u8], rows: &[T], test: &mut F) {
+    and_rows_in_place_any::<T, F>(bytes, rows, test)
+}
+
+#[cfg(target_arch = "x86_64")]
+#[target_feature(enable = "avx2,bmi1,bmi2,f16c,fma,lzcnt,movbe,popcnt")]
+#[target_feature(enable = "avx512f,avx512bw,avx512cd,avx512dq,avx512vl")]
+fn and_rows_in_place_v4<T, F: FnMut(&T) -> bool>(bytes: &mut [u8], rows: &[T], test: &mut F) {
     and_rows_in_place_any::<T, F>(bytes, rows, test)
 }
 

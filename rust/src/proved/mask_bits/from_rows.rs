@@ -39,7 +39,8 @@ impl BitBuffer {
         rows: &[T],
         test: F,
     ) -> Result<BitBuffer, AllocError> {
-        crate::native::by_level!(
+        crate::native::by_level_to_v4!(
+            Self::from_rows_v4::<T, F>(rows, test),
             Self::from_rows_v3::<T, F>(rows, test),
             Self::from_rows_any::<T, F>(rows, test)
         )
@@ -48,6 +49,13 @@ impl BitBuffer {
     #[cfg(target_arch = "x86_64")]
     #[target_feature(enable = "avx2,bmi1,bmi2,f16c,fma,lzcnt,movbe,popcnt")]
     fn from_rows_v3<T, F: Fn(&T) -> bool>(rows: &[T], test: F) -> Result<BitBuffer, AllocError> {
+        Self::from_rows_any::<T, F>(rows, test)
+    }
+
+    #[cfg(target_arch = "x86_64")]
+    #[target_feature(enable = "avx2,bmi1,bmi2,f16c,fma,lzcnt,movbe,popcnt")]
+    #[target_feature(enable = "avx512f,avx512bw,avx512cd,avx512dq,avx512vl")]
+    fn from_rows_v4<T, F: Fn(&T) -> bool>(rows: &[T], test: F) -> Result<BitBuffer, AllocError> {
         Self::from_rows_any::<T, F>(rows, test)
     }
 

@@ -67,7 +67,8 @@ pub fn choose_small_rows<const FEW: usize, M: MoveRows<T>, T: Copy, R: Room<T>>(
     rows: &[T],
     chunks: &BitChunks<'_>,
 ) {
-    crate::native::by_level!(
+    crate::native::by_level_to_v4!(
+        choose_small_rows_v4::<FEW, M, T, R>(out, rows, chunks),
         choose_small_rows_v3::<FEW, M, T, R>(out, rows, chunks),
         choose_small_rows_any::<FEW, M, T, R>(out, rows, chunks)
     )
@@ -76,6 +77,17 @@ pub fn choose_small_rows<const FEW: usize, M: MoveRows<T>, T: Copy, R: Room<T>>(
 #[cfg(target_arch = "x86_64")]
 #[target_feature(enable = "avx2,bmi1,bmi2,f16c,fma,lzcnt,movbe,popcnt")]
 fn choose_small_rows_v3<const FEW: usize, M: MoveRows<T>, T: Copy, R: Room<T>>(
+    out: &mut R,
+    rows: &[T],
+    chunks: &BitChunks<'_>,
+) {
+    choose_small_rows_any::<FEW, M, T, R>(out, rows, chunks)
+}
+
+#[cfg(target_arch = "x86_64")]
+#[target_feature(enable = "avx2,bmi1,bmi2,f16c,fma,lzcnt,movbe,popcnt")]
+#[target_feature(enable = "avx512f,avx512bw,avx512cd,avx512dq,avx512vl")]
+fn choose_small_rows_v4<const FEW: usize, M: MoveRows<T>, T: Copy, R: Room<T>>(
     out: &mut R,
     rows: &[T],
     chunks: &BitChunks<'_>,
