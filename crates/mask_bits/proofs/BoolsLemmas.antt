@@ -1,6 +1,5 @@
 -- Truth values that are packed into words.
-use Rattle.mask_bits.proofs.Common.{◌≡◌, ℕ, ◌+◌, ◌*◌, ◌-◌, ◌<◌, ◌≤◌, ◌⊎◌, Bool, true, false, nat_eq, List, get_or, replicate, set, refl, ap, ◌∙◌, inl, inr, arith, cases_lt, get_or-replicate, get_or-set_same, get_or-set_other, get_or-take, get_or_past, length-replicate, length-set, backing_bit, AreLanesOf, word_bits, window, length-take, bool_byte, ◌^◌, ◌%◌, length, map, take, cond, eqb, zip2, w8, take_all, get_or-map, length-map, bitmask_splat, bit_mask_l}
-use Rattle.mask_bits.proofs.Lists.Words.FrontLemmas.{get_or-window}
+use Rattle.mask_bits.proofs.Common.{◌≡◌, ℕ, ◌+◌, ◌-◌, ◌<◌, ◌≤◌, Bool, true, false, nat_eq, List, get_or, replicate, set, refl, ap, ◌∙◌, inl, inr, arith, cases_lt, get_or-replicate, get_or-set_same, get_or-set_other, get_or-take, get_or_past, length-replicate, length-set, AreLanesOf, word_bits, length-take, bool_byte, ◌^◌, ◌%◌, length, map, take, cond, eqb, zip2, w8, take_all, get_or-map, length-map, bitmask_splat, bit_mask_l}
 use Rattle.mask_bits.proofs.Lists.Words.WordLemmas.{get_or-word_bits}
 use lib.Lanes.{mask_l, top}
 use mir.Val.{bits, hbits}
@@ -16,21 +15,6 @@ is_set_lane false = refl
 
 pub lanes-more : (n : ℕ) (m : List Bool) (lanes : List ℕ) (j : ℕ) → j < n → AreLanesOf n m j lanes → AreLanesOf n m (j + 1) (set lanes j (bool_byte (get_or m j false)))
 lanes-more n m lanes j few before = grind (arith, length-set, get_or-set_same, is_set_lane, get_or-take, get_or-set_other, get_or_past, length-take)
-
--- one more word of a list is written
-pub bools-more : (old new : List ℕ) (m part : List Bool) (i w : ℕ) → ((p : ℕ) → p < 64 * i → backing_bit old p ≡ get_or m p false)
-    → window new (64 * i) ≡ word_bits w → ((p : ℕ) → ((p < 64 * i) ⊎ (64 * i + 64 ≤ p)) → backing_bit new p ≡ backing_bit old p)
-    → ((j : ℕ) → j < 64 → get_or (word_bits w) j false ≡ get_or part j false) → ((j : ℕ) → j < 64 → get_or part j false ≡ get_or m (64 * i + j) false)
-    → (p : ℕ) → p < 64 * (i + 1) → backing_bit new p ≡ get_or m p false
-bools-more old new m part i w before wrote others is_word is_part p h =
-    elim (cases_lt p (64 * i)) [
-      | inl earlier ↦ others p (inl earlier) ∙ before p earlier
-      | inr here ↦
-          let j : ℕ = p - 64 * i in
-          let few : j < 64 = omega arith in
-          let at : 64 * i + j ≡ p = omega arith in
-          grind (arith, get_or-window)
-    ]
 
 -- ---- the word of lanes
 -- bit j of the word is set where lane j is 1, and clear where there is no such lane

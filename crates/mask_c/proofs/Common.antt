@@ -36,7 +36,7 @@ pub use Rattle.mask_bits.proofs.Lists.RankLemmas.{length-true_at, narrow, rank_i
 pub use Rattle.mask_bits.proofs.Lists.Runs.RunLemmas.{runs_from-moved}
 pub use Rattle.mask_bits.proofs.Lists.Words.BackingBitLemmas.{bit-window, bitmap-append, bitmap-drop, front-split, get_or-bitmap, length-bitmap, no_values}
 pub use Rattle.mask_bits.proofs.Lists.Words.BlockLemmas.{block-more, indices-none}
-pub use Rattle.mask_bits.proofs.Lists.Words.FrontLemmas.{behind-further, behind-later, front-same, front-taken, get_or-put_mid_above, get_or-put_mid_below, get_or-put_mid_inside, get_or-window, length-window, put-before, window-take, window_from_bits}
+pub use Rattle.mask_bits.proofs.Lists.Words.FrontLemmas.{behind-further, behind-later, front-same, front-taken, get_or-put_mid_above, get_or-put_mid_below, get_or-put_mid_inside, get_or-window, length-window, put-before, window-take, window_from_bits, words-more}
 pub use Rattle.mask_bits.proofs.Lists.Words.PaddedLemmas.{get_or-padded_part, length-padded_part, padded_part-whole, padded_part_from_values}
 pub use Rattle.mask_bits.proofs.Lists.Words.ShiftLemmas.{bit_at-low_mask, bit_at-mod, bit_at-past_mask, bit_at-shl_high, bit_at-shl_low, get_or-word_bits_and, get_or-word_bits_or}
 pub use Rattle.mask_bits.proofs.Lists.Words.WordLemmas.{count-word_bits, get_or-word_bits, length-word_bits}

@@ -1,7 +1,6 @@
 -- The values of a bitmap at a list of indices, as they are put into words.
-use Rattle.mask_c.proofs.Common.{common_steps, ◌≡◌, ℕ, ◌+◌, ◌-◌, ◌*◌, ◌<◌, ◌≤◌, inl, inr, Bool, false, List, [], ◌∷◌, ◌++◌, cons_option, length, get_or, set, take, drop, map, slice_get, slice_range, refl, sym, ap, ap₂, ◌∙◌, arith, cases_lt, cases_eq, All, All-head, All-tail, take_more, map-append, length-map, length-take, get_or-set_at, get_or-set_other, get_or_append_left, get_or-append_right, get_or_past, get_or-between, bitmap, backing_bit, word_bits, window, get_or-window}
+use Rattle.mask_c.proofs.Common.{common_steps, ◌≡◌, ℕ, ◌+◌, ◌-◌, ◌<◌, Bool, false, List, [], ◌∷◌, ◌++◌, cons_option, length, get_or, set, take, drop, map, slice_get, slice_range, refl, sym, ap, ap₂, ◌∙◌, arith, cases_eq, All, All-head, All-tail, take_more, map-append, length-map, length-take, get_or-set_at, get_or-set_other, get_or_append_left, get_or-append_right, get_or_past, get_or-between, bitmap, backing_bit}
 use Rattle.std.specs.List.{filter_map}
-use Rattle.std.specs.Prelude.{◌⊎◌}
 use Rattle.std.proofs.lemmas.List.{take-map, drop-map}
 use Rattle.mask_c.proofs.BitmapLemmas.{slice_get-bitmap}
 
@@ -14,21 +13,6 @@ bits-more {N} f ps bits j p few here room before k h =
     let next : map f (take (j + 1) ps) ≡ xs ++ f p ∷ [] = ap (map f) (take_more ps j p few ∙ ap (λ (x : N). take j ps ++ x ∷ []) here) ∙ map-append f (take j ps) (p ∷ []) in
     let len : length xs ≡ j = omega (arith, length-map (take j ps) f, length-take j ps) in
     grind (arith, common_steps, next, len, before k h, cases_eq, get_or-set_at, get_or-set_other, get_or_append_left, get_or-append_right, get_or_past)
-
--- one more word
-pub words-more : (old new : List ℕ) (m part : List Bool) (i w : ℕ) → ((p : ℕ) → p < 64 * i → backing_bit old p ≡ get_or m p false)
-    → window new (64 * i) ≡ word_bits w → ((p : ℕ) → ((p < 64 * i) ⊎ (64 * i + 64 ≤ p)) → backing_bit new p ≡ backing_bit old p)
-    → ((j : ℕ) → j < 64 → get_or (word_bits w) j false ≡ get_or part j false) → ((j : ℕ) → j < 64 → get_or part j false ≡ get_or m (64 * i + j) false)
-    → (p : ℕ) → p < 64 * (i + 1) → backing_bit new p ≡ get_or m p false
-words-more old new m part i w before wrote others is_word is_part p h =
-    elim (cases_lt p (64 * i)) [
-      | inl earlier ↦ others p (inl earlier) ∙ before p earlier
-      | inr here ↦
-          let j : ℕ = p - 64 * i in
-          let few : j < 64 = omega arith in
-          let at : 64 * i + j ≡ p = omega arith in
-          grind (arith, get_or-window)
-    ]
 
 -- a part of what is made of a list
 pub made-part : {N : Type 0} (f : N → Bool) (ps : List N) (s e j : ℕ) → s + j < e → get_or (map f (slice_range ps s e)) j false ≡ get_or (map f ps) (s + j) false

@@ -1,5 +1,5 @@
 -- Words and first bits of some bytes: what a window shows, and a front that grows by a word.
-use Rattle.mask_bits.proofs.Common.{◌≡◌, ℕ, ◌+◌, ◌*◌, ◌-◌, ◌/◌, ◌%◌, ◌<◌, ◌≤◌, Bool, false, List, ◌++◌, length, get_or, take, drop, slice_range, bit_at, nat_eq, refl, sym, ap, ◌∙◌, arith, from_le_bytes, length-append, get_or_append_left, get_or-append_right, get_or_past, get_or-drop, get_or-take, length-between, get_or-between, length-map-range_with_len, get_or-map-range_with_len, fill_by_all, take-put_mid_below, drop-put_mid, between-put_mid, bitmap, Packed, backing_bit, values, word_bits, window, w64, drop-drop, length-take, put_mid}
+use Rattle.mask_bits.proofs.Common.{◌≡◌, ℕ, ◌+◌, ◌*◌, ◌-◌, ◌/◌, ◌%◌, ◌<◌, ◌≤◌, ◌⊎◌, inl, inr, Bool, false, List, ◌++◌, length, get_or, take, drop, slice_range, bit_at, nat_eq, refl, sym, ap, ◌∙◌, arith, cases_lt, from_le_bytes, length-append, get_or_append_left, get_or-append_right, get_or_past, get_or-drop, get_or-take, length-between, get_or-between, length-map-range_with_len, get_or-map-range_with_len, fill_by_all, take-put_mid_below, drop-put_mid, between-put_mid, bitmap, Packed, backing_bit, values, word_bits, window, w64, drop-drop, length-take, put_mid}
 use Rattle.mask_bits.proofs.BufferLemmas.{length-values, get_or-values, values_from_bits, values_from_front}
 use Rattle.mask_bits.proofs.Lists.Words.WordLemmas.{word_bits_from_bits}
 use Rattle.mask_bits.proofs.NumberLemmas.{AreBytes, bit_at-chunk}
@@ -51,6 +51,23 @@ get_or-put_mid_above a k xs ys m within len above = grind (arith, get_or-drop m 
 
 pub get_or-put_mid_inside : (a e : ℕ) (xs ys : List ℕ) (m : ℕ) → a ≤ length xs → length ys ≡ e - a → m < e - a → get_or (put_mid a (e - a) xs ys) (a + m) 0 ≡ get_or ys m 0
 get_or-put_mid_inside a e xs ys m within len inside = grind (arith, get_or-between (put_mid a (e - a) xs ys) a e m 0, between-put_mid a (e - a) xs ys e within len)
+
+-- ---- one word behind another
+
+-- words that hold the first values of a list, and one more that holds those that follow
+pub words-more : (old new : List ℕ) (m part : List Bool) (i w : ℕ) → ((p : ℕ) → p < 64 * i → backing_bit old p ≡ get_or m p false)
+    → window new (64 * i) ≡ word_bits w → ((p : ℕ) → ((p < 64 * i) ⊎ (64 * i + 64 ≤ p)) → backing_bit new p ≡ backing_bit old p)
+    → ((j : ℕ) → j < 64 → get_or (word_bits w) j false ≡ get_or part j false) → ((j : ℕ) → j < 64 → get_or part j false ≡ get_or m (64 * i + j) false)
+    → (p : ℕ) → p < 64 * (i + 1) → backing_bit new p ≡ get_or m p false
+words-more old new m part i w before wrote others is_word is_part p h =
+    elim (cases_lt p (64 * i)) [
+      | inl earlier ↦ others p (inl earlier) ∙ before p earlier
+      | inr here ↦
+          let j : ℕ = p - 64 * i in
+          let few : j < 64 = omega arith in
+          let at : 64 * i + j ≡ p = omega arith in
+          grind (arith, get_or-window)
+    ]
 
 -- ---- the first bits
 

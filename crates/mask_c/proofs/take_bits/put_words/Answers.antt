@@ -1,5 +1,5 @@
-use Rattle.mask_c.proofs.Common.{◌+◌, ◌*◌, Bool, map, slice_range, arith, backing_bit}
-use Rattle.mask_c.proofs.TakeBitsLemmas.{made-part, words-more}
+use Rattle.mask_c.proofs.Common.{◌+◌, ◌*◌, Bool, map, slice_range, arith, backing_bit, words-more}
+use Rattle.mask_c.proofs.TakeBitsLemmas.{made-part}
 use Rattle.mask_c.proofs.take_bits.put_words.Goals as goal
 
 pub loop-i-preserved : goal.loop-i-preserved
