@@ -1,5 +1,5 @@
 -- A list limited to its first true values, and the count below a true place.
-use Rattle.mask_bits.proofs.Common.{◌≡◌, ℕ, zero, suc, ◌-◌, ◌<◌, ◌≤◌, ◌++◌, min, Bool, true, false, ◌&&◌, nat_lt, List, [], ◌∷◌, length, get_or, take, slice_range, Some, slice_get, refl, sym, ap, ◌∙◌, arith, get_or-map, slice_get_within, get_or_from_slice_get, length-map-range_with_len, get_or-map-range_with_len, limited, positions, count, count_below, repeated, ext_get_or, length-take}
+use Rattle.mask_bits.proofs.Common.{◌≡◌, ℕ, zero, suc, ◌-◌, ◌<◌, ◌≤◌, ◌++◌, min, Bool, true, false, ◌&&◌, nat_lt, List, [], ◌∷◌, length, get_or, take, slice_range, Some, slice_get, refl, sym, ap, ◌∙◌, arith, get_or-map, slice_get_within, get_or_from_slice_get, fill_by_all, limited, positions, count, count_below, repeated, length-take}
 use Rattle.mask_bits.specs.Laws.Indices.{CountBelowPosition}
 use Rattle.mask_bits.specs.Laws.Parts.{LimitOfLimit, HasLimitCount}
 use Rattle.mask_bits.proofs.Lists.Places.PlaceLemmas.{positions-true, positions-false, trues, count-trues}
@@ -19,18 +19,13 @@ get_or-kept : (m : List Bool) (k i : ℕ) → get_or (kept m k) i false ≡ (get
 get_or-kept [] k i = refl
 get_or-kept (v ∷ m) k i = grind (arith, get_or-kept m)
 
-pub length-limited : (m : List Bool) (k : ℕ) → length (limited m k) ≡ length m
-unfolding limited
-length-limited m k = length-map-range_with_len (λ i. get_or m i false && nat_lt (count_below m i) k) 0 (length m)
-
--- value i
-pub get_or-limited : (m : List Bool) (k i : ℕ) (d : Bool) → i < length m → get_or (limited m k) i d ≡ (get_or m i false && nat_lt (count_below m i) k)
-unfolding limited
-get_or-limited m k i d h = get_or-map-range_with_len (λ j. get_or m j false && nat_lt (count_below m j) k) 0 (length m) i i d h (omega arith)
-
 pub limited-kept : (m : List Bool) (k : ℕ) → limited m k ≡ kept m k
+unfolding limited
 limited-kept m k =
-    ext_get_or false (limited m k) (kept m k) (length-limited m k ∙ sym (length-kept m k)) (λ i h. grind (arith, get_or-limited m k i false, length-limited m k, count-trues (take i m), get_or-kept m k i))
+    sym (fill_by_all (λ i. get_or m i false && nat_lt (count_below m i) k) (kept m k) (length m) false (length-kept m k) (λ i h. get_or-kept m k i ∙ ap (λ n. get_or m i false && nat_lt n k) (sym (count-trues (take i m)))))
+
+pub length-limited : (m : List Bool) (k : ℕ) → length (limited m k) ≡ length m
+length-limited m k = ap length (limited-kept m k) ∙ length-kept m k
 
 kept-kept : (m : List Bool) (k j : ℕ) → kept (kept m k) j ≡ kept m (min k j)
 kept-kept [] k j = refl

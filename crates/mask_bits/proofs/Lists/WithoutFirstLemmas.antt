@@ -1,5 +1,5 @@
 -- A list without its first true values, and its true places beside those of the limited list.
-use Rattle.mask_bits.proofs.Common.{◌≡◌, ℕ, zero, suc, ◌-◌, ◌<◌, ◌≤◌, ◌++◌, Bool, true, false, ◌&&◌, not, nat_lt, List, [], ◌∷◌, length, get_or, take, drop, slice_range, Some, slice_get, refl, sym, ap, ◌∙◌, arith, get_or-map, slice_get_within, get_or_from_slice_get, length-map-range_with_len, get_or-map-range_with_len, without_first, positions, count, count_below, repeated, ext_get_or, length-drop, take_all}
+use Rattle.mask_bits.proofs.Common.{◌≡◌, ℕ, zero, suc, ◌-◌, ◌<◌, ◌≤◌, ◌++◌, Bool, true, false, ◌&&◌, not, nat_lt, List, [], ◌∷◌, length, get_or, take, drop, slice_range, Some, slice_get, refl, sym, ap, ◌∙◌, arith, get_or-map, slice_get_within, get_or_from_slice_get, fill_by_all, without_first, positions, count, count_below, repeated, length-drop, take_all}
 use Rattle.std.proofs.lemmas.List.{drop-map, take-map}
 use Rattle.mask_bits.specs.Laws.Parts.{HasCountWithoutFirst, AreSplitAtLimit}
 use Rattle.mask_bits.proofs.Lists.LimitLemmas.{kept, limited-kept}
@@ -20,18 +20,13 @@ get_or-others : (m : List Bool) (k i : ℕ) → get_or (others m k) i false ≡ 
 get_or-others [] k i = refl
 get_or-others (v ∷ m) k i = grind (arith, get_or-others m)
 
-pub length-without_first : (m : List Bool) (k : ℕ) → length (without_first m k) ≡ length m
-unfolding without_first
-length-without_first m k = length-map-range_with_len (λ i. get_or m i false && not (nat_lt (count_below m i) k)) 0 (length m)
-
--- value i
-pub get_or-without_first : (m : List Bool) (k i : ℕ) (d : Bool) → i < length m → get_or (without_first m k) i d ≡ (get_or m i false && not (nat_lt (count_below m i) k))
-unfolding without_first
-get_or-without_first m k i d h = get_or-map-range_with_len (λ j. get_or m j false && not (nat_lt (count_below m j) k)) 0 (length m) i i d h (omega arith)
-
 pub without_first-others : (m : List Bool) (k : ℕ) → without_first m k ≡ others m k
+unfolding without_first
 without_first-others m k =
-    ext_get_or false (without_first m k) (others m k) (length-without_first m k ∙ sym (length-others m k)) (λ i h. grind (arith, get_or-without_first m k i false, length-without_first m k, count-trues (take i m), get_or-others m k i))
+    sym (fill_by_all (λ i. get_or m i false && not (nat_lt (count_below m i) k)) (others m k) (length m) false (length-others m k) (λ i h. get_or-others m k i ∙ ap (λ n. get_or m i false && not (nat_lt n k)) (sym (count-trues (take i m)))))
+
+pub length-without_first : (m : List Bool) (k : ℕ) → length (without_first m k) ≡ length m
+length-without_first m k = ap length (without_first-others m k) ∙ length-others m k
 
 trues-others : (m : List Bool) (k : ℕ) → trues (others m k) ≡ trues m - k
 trues-others [] k = omega arith
