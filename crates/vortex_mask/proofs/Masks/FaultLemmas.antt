@@ -91,8 +91,8 @@ first_past-more len x [] h = grind (arith, nat_tests)
 first_past-more len x (y ∷ xs) h = grind (arith, nat_tests, first_past-more len x xs)
 
 -- the fault that the first past the length is
-pub out_of_bounds-first : (len n : ℕ) (xs : List ℕ) (o : Option ℕ) → n ≡ len → o ≡ first_past n xs → out_of_bounds len xs ≡ option_map (λ x. IndexOutOfBounds x len) o
-out_of_bounds-first len n xs o same is = ap (option_map (λ x. IndexOutOfBounds x len)) (ap (λ k. first_past k xs) (sym same) ∙ sym is)
+pub out_of_bounds-first : (len : ℕ) (xs : List ℕ) (first o : Option ℕ) → first ≡ first_past len xs → first ≡ o → out_of_bounds len xs ≡ option_map (λ x. IndexOutOfBounds x len) o
+out_of_bounds-first len xs first o is found = ap (option_map (λ x. IndexOutOfBounds x len)) (sym is ∙ found)
 
 -- ---- what two lists have in common
 

@@ -1,4 +1,4 @@
-use Rattle.vortex_mask.proofs.Common.{◌≡◌, List, ℕ, Some, None, length, inl, inr, ap, ◌∙◌, option_map, IfOk-weaker, not_of, true_at, out_of_bounds, truth, IndexOutOfBounds, refl, bitmap, take_at, arith}
+use Rattle.vortex_mask.proofs.Common.{◌≡◌, List, ℕ, Some, None, length, inl, inr, ap, ◌∙◌, IfOk-weaker, not_of, true_at, out_of_bounds, truth, IndexOutOfBounds, bitmap, take_at, arith}
 use Rattle.vortex_mask.proofs.Masks.ExcludedLemmas.{length-without}
 use Rattle.vortex_mask.proofs.Masks.FaultLemmas.{out_of_bounds-first}
 use Rattle.vortex_mask.proofs.Masks.MaskWalkLemmas.{whole_run}
@@ -7,9 +7,7 @@ use Rattle.vortex_mask.proofs.mask.Mask.from_excluded_indices.Goals as goal
 pub returns-in-Some-clause-refused : goal.returns-in-Some-clause-refused
 returns-in-Some-clause-refused g c =
     let came = c.exclude.ensures in
-    let fault = out_of_bounds-first c.args.len c.args.len came.0 c.exclude.result refl came.3
-    ∙ ap (option_map (λ x. IndexOutOfBounds x c.args.len)) c.in-Some.is in
-    inr (came.0, came.1, fault)
+    inr (came.0, came.1, out_of_bounds-first c.args.len came.0 c.exclude.result _ came.3 c.in-Some.is)
 
 pub returns-in-Some-clause-refused_whole : goal.returns-in-Some-clause-refused_whole
 returns-in-Some-clause-refused_whole g c = elim (returns-in-Some-clause-refused g c) [
@@ -20,8 +18,7 @@ returns-in-Some-clause-refused_whole g c = elim (returns-in-Some-clause-refused 
 pub returns-clause-list : goal.returns-clause-list
 returns-clause-list g c =
     let came = c.exclude.ensures in
-    let none = out_of_bounds-first c.args.len c.args.len came.0 c.exclude.result refl came.3
-    ∙ ap (option_map (λ x. IndexOutOfBounds x c.args.len)) c.in_default.is in
+    let none = out_of_bounds-first c.args.len came.0 c.exclude.result _ came.3 c.in_default.is in
     let bytes = c.in_ok-bytes.bytes in
     let back = take_at c.exclude.new.bytes _ bytes.len (omega (arith, c.exclude.auto.bytes, c.deref_mut.ensures.len)) in
     let all = ap (λ (xs : List ℕ). bitmap xs 0 c.args.len) back ∙ came.2 in

@@ -1,4 +1,4 @@
-use Rattle.vortex_mask.proofs.Common.{◌≡◌, List, ℕ, Some, None, length, inl, inr, ap, ◌∙◌, option_map, IfOk-weaker, true_at, length-true_at, out_of_bounds, truth, IndexOutOfBounds, refl}
+use Rattle.vortex_mask.proofs.Common.{◌≡◌, List, ℕ, Some, None, length, inl, inr, ap, ◌∙◌, IfOk-weaker, true_at, length-true_at, out_of_bounds, truth, IndexOutOfBounds}
 use Rattle.vortex_mask.proofs.Masks.FaultLemmas.{out_of_bounds-first}
 use Rattle.vortex_mask.proofs.Masks.MaskWalkLemmas.{whole_run}
 use Rattle.vortex_mask.proofs.mask.Mask.from_unsorted_indices.Goals as goal
@@ -6,9 +6,7 @@ use Rattle.vortex_mask.proofs.mask.Mask.from_unsorted_indices.Goals as goal
 pub returns-in-Some-clause-refused : goal.returns-in-Some-clause-refused
 returns-in-Some-clause-refused g c =
     let came = c.include.ensures in
-    let fault = out_of_bounds-first c.args.len c.args.len came.0 c.include.result refl came.3
-    ∙ ap (option_map (λ x. IndexOutOfBounds x c.args.len)) c.in-Some.is in
-    inr (came.0, came.1, fault)
+    inr (came.0, came.1, out_of_bounds-first c.args.len came.0 c.include.result _ came.3 c.in-Some.is)
 
 pub returns-in-Some-clause-refused_whole : goal.returns-in-Some-clause-refused_whole
 returns-in-Some-clause-refused_whole g c = elim (returns-in-Some-clause-refused g c) [
@@ -19,8 +17,7 @@ returns-in-Some-clause-refused_whole g c = elim (returns-in-Some-clause-refused 
 pub returns-clause-list : goal.returns-clause-list
 returns-clause-list g c =
     let came = c.include.ensures in
-    let none = out_of_bounds-first c.args.len c.args.len came.0 c.include.result refl came.3
-    ∙ ap (option_map (λ x. IndexOutOfBounds x c.args.len)) c.in_default.is in
+    let none = out_of_bounds-first c.args.len came.0 c.include.result _ came.3 c.in_default.is in
     IfOk-weaker c.from_buffer.result _ _ (λ m same. (came.0, came.1, none, same ∙ c.in_ok-freeze.ensures ∙ came.2)) c.from_buffer.ensures.list
 
 pub returns-clause-whole : goal.returns-clause-whole

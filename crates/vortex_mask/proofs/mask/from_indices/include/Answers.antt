@@ -1,4 +1,4 @@
-use Rattle.vortex_mask.proofs.Common.{ℕ, ◌<◌, ◌≤◌, Bool, true, List, set, option_or, Some, refl, ap, ◌∙◌, arith, length, length-true_at}
+use Rattle.vortex_mask.proofs.Common.{◌<◌, ◌≤◌, Bool, true, List, set, option_or, Some, refl, ap, ◌∙◌, arith, length, length-true_at}
 use Rattle.vortex_mask.proofs.Masks.ExcludedLemmas.{with-none, with-set, with-past}
 use Rattle.vortex_mask.proofs.Masks.FaultLemmas.{first_past-within, first_past-more}
 use Rattle.vortex_mask.proofs.mask.from_indices.include.Goals as goal
