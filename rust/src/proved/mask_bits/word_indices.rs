@@ -34,13 +34,13 @@ pub fn put_indices<N: RowIndex>(word: u64, first: usize, out: &mut [N], at: usiz
         return at;
     }
     let end = at + (word.count_ones() as usize).min(out.len() - at);
-    put_lowest(word, first, out, at, end);
+    put_indices_up_to(word, first, out, at, end);
     end
 }
 
 // Writes the indices of its lowest set bits, up to place `end`.
 #[inline(always)]
-fn put_lowest<N: RowIndex>(word: u64, first: usize, out: &mut [N], at: usize, end: usize) {
+fn put_indices_up_to<N: RowIndex>(word: u64, first: usize, out: &mut [N], at: usize, end: usize) {
     let mut left = word;
     for place in at..end {
         put(out, place, N::of(first + left.trailing_zeros() as usize));

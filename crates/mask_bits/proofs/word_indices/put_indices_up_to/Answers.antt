@@ -2,7 +2,7 @@ use Rattle.mask_bits.proofs.Common.{ℕ, suc, set, ◌≡◌, ◌<◌, ◌-◌, 
 use Rattle.mask_bits.proofs.Lists.Places.SelectLemmas.{positions-lowest}
 use Rattle.mask_bits.proofs.Lists.Words.LowestLemmas.{low}
 use Rattle.mask_bits.proofs.PutIndicesLemmas.{some_bits}
-use Rattle.mask_bits.proofs.word_indices.put_lowest.Goals as goal
+use Rattle.mask_bits.proofs.word_indices.put_indices_up_to.Goals as goal
 
 pub overflow_add-first : goal.overflow_add-first
 overflow_add-first g c =

@@ -1,5 +1,5 @@
 use Rattle.mask_bits.proofs.Common.{◌≡◌, ◌+◌, ◌<◌, ◌^◌, ◌++◌, map, take, All, count, positions, word_bits}
-use Rattle.mask_bits.proofs.word_indices.put_lowest.Given as goal
+use Rattle.mask_bits.proofs.word_indices.put_indices_up_to.Given as goal
 
 -- the indices so far and those of the bits that are left are the indices of the word
 abbrev pub invariant-loop-place : goal.invariant-loop-place
