@@ -1,8 +1,14 @@
 -- A list limited to its first true values, and the count below a true place.
-use Rattle.mask_bits.proofs.Common.{◌≡◌, ℕ, zero, suc, ◌-◌, ◌<◌, ◌≤◌, ◌++◌, min, Bool, true, false, ◌&&◌, nat_lt, List, [], ◌∷◌, length, get_or, take, slice_range, Some, slice_get, refl, sym, ap, ◌∙◌, arith, get_or-map, slice_get_within, get_or_from_slice_get, fill_by_all, limited, positions, count, count_below, repeated, length-take}
+use Rattle.mask_bits.proofs.Common.{◌≡◌, ℕ, zero, suc, ◌-◌, ◌<◌, ◌≤◌, ◌++◌, min, Bool, true, false, ◌&&◌, nat_lt, List, [], ◌∷◌, length, map, range_with_len, get_or, take, slice_range, Some, slice_get, refl, sym, ap, ◌∙◌, arith, get_or-map, slice_get_within, get_or_from_slice_get, fill_by_all, limited, positions, count, count_below, repeated, length-take}
 use Rattle.mask_bits.specs.Laws.Indices.{CountBelowPosition}
 use Rattle.mask_bits.specs.Laws.Parts.{LimitOfLimit, HasLimitCount}
 use Rattle.mask_bits.proofs.Lists.Places.PlaceLemmas.{positions-true, positions-false, trues, count-trues}
+
+-- the values of m that stay true where the number of true ones before them says so: a list of such values is all of them
+pub by_trues : (f : ℕ → Bool) (m xs : List Bool) → length xs ≡ length m → ((i : ℕ) → get_or xs i false ≡ (get_or m i false && f (trues (take i m))))
+    → map (λ i. get_or m i false && f (count_below m i)) (range_with_len 0 (length m)) ≡ xs
+by_trues f m xs len each =
+    sym (fill_by_all (λ i. get_or m i false && f (count_below m i)) xs (length m) false len (λ i h. each i ∙ ap (λ n. get_or m i false && f n) (sym (count-trues (take i m)))))
 
 -- the first k true values, by recursion on the list
 abbrev pub kept : List Bool → ℕ → List Bool
@@ -21,8 +27,7 @@ get_or-kept (v ∷ m) k i = grind (arith, get_or-kept m)
 
 pub limited-kept : (m : List Bool) (k : ℕ) → limited m k ≡ kept m k
 unfolding limited
-limited-kept m k =
-    sym (fill_by_all (λ i. get_or m i false && nat_lt (count_below m i) k) (kept m k) (length m) false (length-kept m k) (λ i h. get_or-kept m k i ∙ ap (λ n. get_or m i false && nat_lt n k) (sym (count-trues (take i m)))))
+limited-kept m k = by_trues (λ n. nat_lt n k) m (kept m k) (length-kept m k) (get_or-kept m k)
 
 pub length-limited : (m : List Bool) (k : ℕ) → length (limited m k) ≡ length m
 length-limited m k = ap length (limited-kept m k) ∙ length-kept m k

@@ -1,8 +1,8 @@
 -- A list without its first true values, and its true places beside those of the limited list.
-use Rattle.mask_bits.proofs.Common.{◌≡◌, ℕ, zero, suc, ◌-◌, ◌<◌, ◌≤◌, ◌++◌, Bool, true, false, ◌&&◌, not, nat_lt, List, [], ◌∷◌, length, get_or, take, drop, slice_range, Some, slice_get, refl, sym, ap, ◌∙◌, arith, get_or-map, slice_get_within, get_or_from_slice_get, fill_by_all, without_first, positions, count, count_below, repeated, length-drop, take_all}
+use Rattle.mask_bits.proofs.Common.{◌≡◌, ℕ, zero, suc, ◌-◌, ◌<◌, ◌≤◌, ◌++◌, Bool, true, false, ◌&&◌, not, nat_lt, List, [], ◌∷◌, length, get_or, take, drop, slice_range, Some, slice_get, refl, sym, ap, ◌∙◌, arith, get_or-map, slice_get_within, get_or_from_slice_get, without_first, positions, count, repeated, length-drop, take_all}
 use Rattle.std.proofs.lemmas.List.{drop-map, take-map}
 use Rattle.mask_bits.specs.Laws.Parts.{HasCountWithoutFirst, AreSplitAtLimit}
-use Rattle.mask_bits.proofs.Lists.LimitLemmas.{kept, limited-kept}
+use Rattle.mask_bits.proofs.Lists.LimitLemmas.{by_trues, kept, limited-kept}
 use Rattle.mask_bits.proofs.Lists.Places.PlaceLemmas.{positions-true, positions-false, trues, count-trues}
 
 -- the true values but the first k, by recursion on the list
@@ -22,8 +22,7 @@ get_or-others (v ∷ m) k i = grind (arith, get_or-others m)
 
 pub without_first-others : (m : List Bool) (k : ℕ) → without_first m k ≡ others m k
 unfolding without_first
-without_first-others m k =
-    sym (fill_by_all (λ i. get_or m i false && not (nat_lt (count_below m i) k)) (others m k) (length m) false (length-others m k) (λ i h. get_or-others m k i ∙ ap (λ n. get_or m i false && not (nat_lt n k)) (sym (count-trues (take i m)))))
+without_first-others m k = by_trues (λ n. not (nat_lt n k)) m (others m k) (length-others m k) (get_or-others m k)
 
 pub length-without_first : (m : List Bool) (k : ℕ) → length (without_first m k) ≡ length m
 length-without_first m k = ap length (without_first-others m k) ∙ length-others m k
