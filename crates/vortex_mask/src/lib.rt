@@ -9,6 +9,7 @@ pub mod conditions;
 mod eq;
 pub mod intersect_by_rank;
 pub mod laws;
+// rust: visible
 mod mask;
 
 pub use mask::{

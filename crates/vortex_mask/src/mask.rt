@@ -3,6 +3,7 @@
 mod all_or;
 mod and_rows;
 mod cached;
+// rust: visible
 mod choose;
 mod choose_values;
 mod common_indices;

@@ -6,8 +6,10 @@ use crate::proved::mask_bits::push_rows::{choose_rows, choose_small_rows};
 use crate::proved::mask_bits::room::Lent;
 use crate::proved::mask_bits::small_rows::MoveRows;
 use crate::proved::mask_c;
+use crate::proved::vortex_mask::mask::choose;
+use crate::row::is_number;
 use crate::selection::{OF_A_RUN, copy_runs};
-use crate::{Bitmap, BitmapBuf, Error, Room, Row};
+use crate::{BitBuffer, Bitmap, BitmapBuf, Error, Room, Row};
 use alloc::vec::Vec;
 use core::mem::MaybeUninit;
 use core::slice;
@@ -122,12 +124,21 @@ impl Bitmap<'_> {
         if has_many && is_small && self.choose_several(rows, out) {
             return;
         }
+        let cells = as_cells(rows);
+        let by_four = has_many && self.len > ANY_LEVEL && size_of::<T>() <= 8;
         if has_long_runs {
-            copy_runs(as_cells(rows), self.runs(), out);
+            copy_runs(cells, self.runs(), out);
+        } else if by_four {
+            choose_rows::<4, _, _>(&mut Lent { out, at: 0 }, cells, &self.chunks());
         } else {
-            let mut room = Lent { out, at: 0 };
-            choose_rows::<0, _, _>(&mut room, as_cells(rows), &self.chunks());
+            choose_rows::<0, _, _>(&mut Lent { out, at: 0 }, cells, &self.chunks());
         }
+    }
+
+    // Whether, with so many true values, so large a share is true that rows of eight bytes are moved several at once.
+    #[cfg(target_arch = "x86_64")]
+    fn is_dense(self, count: usize) -> bool {
+        self.len > FEW_VALUES && count / 3 >= self.len / THREE_TRUE_IN
     }
 
     // Writes each place, where several rows of this size are moved at once, and says whether they are. There is a row for
@@ -149,7 +160,7 @@ impl Bitmap<'_> {
                 true
             }
             #[cfg(target_arch = "x86_64")]
-            8 if moves_eights() && self.has_many_eights(out.len()) => {
+            8 if self.is_dense(out.len()) && moves_eights() => {
                 // SAFETY: a row is eight such bytes. Each place gets a row's, and none is read before.
                 let (rows, out) = unsafe { as_byte_rows(rows, out) };
                 self.move_several::<FEW_EIGHTS, [u8; 8], Moved>(rows, out);
@@ -159,15 +170,49 @@ impl Bitmap<'_> {
         }
     }
 
-    #[cfg(target_arch = "x86_64")]
-    fn has_many_eights(self, count: usize) -> bool {
-        self.len > FEW_VALUES && count / 3 >= self.len / THREE_TRUE_IN
-    }
-
     // The same of rows of bytes. (Inlined, it would slow down the loop beside it.)
     #[inline(never)]
     fn move_several<const FEW: usize, T: Copy, M: MoveRows<T>>(self, rows: &[T], out: &mut [T]) {
         choose_small_rows::<FEW, M, _, _>(&mut Lent { out, at: 0 }, rows, &self.chunks());
+    }
+}
+
+/// Puts the rows at the true values into an empty list with room for just these, which are so many. It stands in the place
+/// of the proved function of this name, to which it leaves rows that aren't known to be plain bytes.
+pub(crate) fn put_chosen_rows<T: Copy>(
+    list: &mut Vec<T>,
+    rows: &[T],
+    buffer: &BitBuffer,
+    count: usize,
+) {
+    let put = match size_of::<T>() {
+        1 if is_number::<T>() => put_chosen_bytes::<T, u8>,
+        4 if is_number::<T>() => put_chosen_bytes::<T, [u8; 4]>,
+        8 if is_number::<T>() => put_chosen_bytes::<T, [u8; 8]>,
+        _ => return choose::put_chosen_rows(list, rows, buffer, count),
+    };
+    // SAFETY: a number is plain bytes, as many as the type here has, and the rest is asked of the caller too.
+    unsafe { put(list, rows, buffer, count) };
+}
+
+/// The same of rows as bytes.
+///
+/// # Safety
+/// A row is plain bytes, as many as `B` has. There is one for each value, the list has room for `count`, and so many values
+/// are true.
+unsafe fn put_chosen_bytes<T: Copy, B: Row>(
+    list: &mut Vec<T>,
+    rows: &[T],
+    buffer: &BitBuffer,
+    count: usize,
+) {
+    debug_assert_eq!((size_of::<B>(), align_of::<B>()), (size_of::<T>(), 1));
+    // SAFETY: rows and their places are the same memory as bytes, and each place gets a row's.
+    unsafe {
+        let rows = slice::from_raw_parts(rows.as_ptr().cast(), rows.len());
+        let out = slice::from_raw_parts_mut(list.as_mut_ptr().cast(), count);
+        buffer.as_bitmap().choose_to::<B>(rows, out);
+        list.set_len(count);
     }
 }
 

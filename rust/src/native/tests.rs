@@ -2,7 +2,7 @@
 //! x86-64-v3.
 
 use super::features::found::{MOST, QUICK_BITS, V3, V4};
-use crate::{BitBuffer, Bitmap, BitmapBuf, Mask, Row};
+use crate::{BitBuffer, Bitmap, BitmapBuf, Mask, Row, Selection};
 
 /// A call gives the same whatever the processor has.
 fn same<T: PartialEq + std::fmt::Debug>(call: impl Fn() -> T) {
@@ -78,6 +78,8 @@ fn chosen<T: Row + PartialEq + std::fmt::Debug>(a: Bitmap<'_>, row: impl Fn(usiz
     let wanted: Vec<T> = a.indices().map(|i| rows[i]).collect();
     same(|| {
         assert_eq!(a.choose(&rows).unwrap(), wanted);
+        assert_eq!(Mask::from(a.to_buf()).choose(&rows), wanted);
+        assert_eq!(Selection::new(a.to_buf()).choose(&rows).unwrap(), wanted);
         let mut out = vec![row(5); wanted.len() + 70];
         assert_eq!(a.choose_into(&rows, &mut out), Ok(wanted.len()));
         assert_eq!(out[..wanted.len()], wanted);

@@ -8,7 +8,7 @@ pub(crate) use crate::kit::cached_list;
 pub mod conditions;
 mod eq;
 pub mod intersect_by_rank;
-mod mask;
+pub(crate) mod mask;
 
 pub use mask::{
     AllOr, Fraction, Mask, MaskBoolIter, MaskError, MaskIter, MaskSetIndices, MaskSetSlices,

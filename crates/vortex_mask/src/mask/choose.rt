@@ -1,10 +1,13 @@
 //! The rows that a mask chooses.
 
-ghost use Rattle.std.specs.Prelude.{◌≡◌, IsOk, IfOk, IsOkUnless, alloc_error, length, vec_len};
+ghost use Rattle.std.specs.Prelude.{◌≡◌, ◌≤◌, [], IsOk, IfOk, IsOkUnless, alloc_error, length, vec_len};
+ghost use Rattle.std.specs.Vec.{vec_capacity};
+ghost use Rattle.mask_bits.specs.Buffer.{values};
 ghost use Rattle.mask_bits.specs.Positions.{count, chosen};
 ghost use Rattle.vortex_mask.specs.Mask.{truth, variant, all_false};
 
 use crate::mask::{Mask, MaskError};
+use mask_bits::BitBuffer;
 use mask_bits::push_rows::choose_rows;
 use std::alloc::Global;
 use std::mem::size_of_val;
@@ -33,13 +36,31 @@ impl Mask {
             Mask::Values(values) => {
                 let (buffer, true_count) = (values.bit_buffer(), values.true_count());
                 let mut chosen_rows = Vec::with_capacity(alloc, true_count)?;
-                if true_count < size_of_val(rows) / FAR {
-                    choose_rows::<0, _, _>(&mut chosen_rows, rows, &buffer.chunks());
-                } else {
-                    choose_rows::<4, _, _>(&mut chosen_rows, rows, &buffer.chunks());
-                }
+                put_chosen_rows(&mut chosen_rows, rows, buffer, true_count);
                 Ok(chosen_rows)
             }
         }
+    }
+}
+
+// Puts the rows at the true values into an empty list with room for just these, which are so many.
+// rust: replaced by bitmap::choose::put_chosen_rows
+// rust: visible
+fn put_chosen_rows<T: Copy>(
+    chosen_rows: &mut Vec<T>,
+    rows: &[T],
+    buffer: &BitBuffer,
+    true_count: usize,
+)
+    requires fitting { length rows.now ≡ length (values buffer.now) }
+    requires empty { chosen_rows.old.items ≡ [] }
+    requires counted { true_count ≡ count (values buffer.now) }
+    requires room { true_count ≤ vec_capacity chosen_rows.old }
+    ensures { chosen_rows.new.items ≡ chosen rows.now (values buffer.now) }
+{
+    if true_count < size_of_val(rows) / FAR {
+        choose_rows::<0, _, _>(chosen_rows, rows, &buffer.chunks());
+    } else {
+        choose_rows::<4, _, _>(chosen_rows, rows, &buffer.chunks());
     }
 }

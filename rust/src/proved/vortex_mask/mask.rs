@@ -5,7 +5,7 @@ use crate::kit::prelude::*;
 mod all_or;
 mod and_rows;
 mod cached;
-mod choose;
+pub(crate) mod choose;
 mod choose_values;
 mod common_indices;
 mod concat;

@@ -2,6 +2,7 @@
 //! The rows that a mask chooses.
 
 use crate::kit::prelude::*;
+use crate::proved::mask_bits::BitBuffer;
 use crate::proved::mask_bits::push_rows::choose_rows;
 use crate::proved::vortex_mask::mask::{Mask, MaskError};
 
@@ -46,13 +47,24 @@ impl Mask {
             Mask::Values(values) => {
                 let (buffer, true_count) = (values.bit_buffer(), values.true_count());
                 let mut chosen_rows = Vec::with_room(true_count)?;
-                if true_count < size_of_val(rows) / FAR {
-                    choose_rows::<0, _, _>(&mut chosen_rows, rows, &buffer.chunks());
-                } else {
-                    choose_rows::<4, _, _>(&mut chosen_rows, rows, &buffer.chunks());
-                }
+                crate::bitmap::choose::put_chosen_rows(&mut chosen_rows, rows, buffer, true_count);
                 Ok(chosen_rows)
             }
         }
+    }
+}
+
+// Puts the rows at the true values into an empty list with room for just these, which are so many.
+#[inline]
+pub(crate) fn put_chosen_rows<T: Copy>(
+    chosen_rows: &mut Vec<T>,
+    rows: &[T],
+    buffer: &BitBuffer,
+    true_count: usize,
+) {
+    if true_count < size_of_val(rows) / FAR {
+        choose_rows::<0, _, _>(chosen_rows, rows, &buffer.chunks());
+    } else {
+        choose_rows::<4, _, _>(chosen_rows, rows, &buffer.chunks());
     }
 }
