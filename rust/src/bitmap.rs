@@ -14,7 +14,7 @@ use core::ops::{Bound, Range, RangeBounds};
 use core::slice;
 
 pub(crate) mod alike;
-pub(crate) mod choose;
+mod choose;
 mod fold;
 mod limit;
 mod pairs;

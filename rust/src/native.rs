@@ -2,9 +2,10 @@
 //! instructions PDEP and PEXT where these are quick. All of it is written by hand, and trusted. `README.md` lists all that is.
 //!
 //! `features` asks the processor, `levels` has calls of what is compiled for it, and `instructions` has the instructions.
-//! These import nothing of the package but each other. `deposits`, `extracts` and `processor` stand in the places of proved
-//! functions, and import what they implement or are called with.
+//! These import nothing of the package but each other. `choose`, `deposits`, `extracts` and `processor` stand in the places of
+//! proved functions, and import what they implement, call or are called with.
 
+mod choose;
 mod deposits;
 #[cfg(target_arch = "x86_64")]
 mod extracts;
@@ -16,6 +17,9 @@ pub(crate) mod processor;
 #[cfg(all(test, target_arch = "x86_64"))]
 mod tests;
 
+pub(crate) use choose::{
+    OF_A_RUN, choose_rows_by_size, choose_several, copy_runs, put_chosen_rows,
+};
 #[cfg(target_arch = "x86_64")]
 pub(crate) use deposits::Bmi2;
 pub(crate) use deposits::{by_loop, quickest, quickest_path};

@@ -1,9 +1,5 @@
 //! Rows that are chosen.
 
-use core::any::TypeId;
-use core::marker::PhantomData;
-use core::mem::transmute;
-
 /// A value that [`Bitmap::choose`](crate::Bitmap::choose) and [`Selection::choose`](crate::Selection::choose) copy: a
 /// number, a `bool`, a `char`, an array of these, and what a caller says is one.
 ///
@@ -32,60 +28,13 @@ use core::mem::transmute;
 pub unsafe trait Row: Copy {}
 
 macro_rules! rows {
-    ($($row:ty),+) => {
-        $(
-            // SAFETY: each byte is one of the number's.
-            unsafe impl Row for $row {}
-        )+
-
-        /// Whether a type is known to be a row: a number, `bool` or `char`.
-        #[inline]
-        pub(crate) fn is_number<T>() -> bool {
-            let this = id_of::<T>();
-            $(this == TypeId::of::<$row>())||+
-        }
-    };
+    ($($row:ty),+) => {$(
+        // SAFETY: each byte is one of the number's.
+        unsafe impl Row for $row {}
+    )+};
 }
 
 rows!(u8, i8, bool, u16, i16, u32, i32, f32, char, u64, i64, f64, usize, isize, u128, i128);
 
 // SAFETY: nothing lies between the items of an array.
 unsafe impl<T: Row, const N: usize> Row for [T; N] {}
-
-// What tells a type from others, but for its lifetimes.
-#[inline]
-fn id_of<T>() -> TypeId {
-    trait Identified {
-        fn id(&self) -> TypeId
-        where
-            Self: 'static;
-    }
-    impl<T> Identified for PhantomData<T> {
-        #[inline]
-        fn id(&self) -> TypeId
-        where
-            Self: 'static,
-        {
-            TypeId::of::<T>()
-        }
-    }
-    let of: PhantomData<T> = PhantomData;
-    // SAFETY: nothing is read through the reference, and the method doesn't depend on lifetimes.
-    unsafe { transmute::<&dyn Identified, &(dyn Identified + 'static)>(&of) }.id()
-}
-
-#[cfg(test)]
-mod tests {
-    use super::is_number;
-
-    fn is_of_numbers<T>(_: T) -> bool {
-        is_number::<T>()
-    }
-
-    #[test]
-    fn numbers_are_known() {
-        assert!(is_of_numbers(7_u8) && is_of_numbers(0.5) && is_of_numbers('a'));
-        assert!(!is_of_numbers([7_u8; 4]) && !is_of_numbers((7_u8, 7_u8)));
-        assert!(!is_of_numbers(&*String::from("a")) && !is_of_numbers(Some(7_u32)));
-    }
-}

@@ -1,6 +1,7 @@
 //! The true values of a bitmap, read once for many columns.
 
 use crate::bitmap::room::{append_to, as_cells, as_places, first_of, list_of, made, reserve};
+use crate::native::{OF_A_RUN, choose_several, copy_runs};
 use crate::proved::mask_bits::SetSlices;
 use crate::proved::mask_bits::room::Lent;
 use crate::proved::mask_bits::word_rows::push_rows_one_by_one;
@@ -10,7 +11,6 @@ use crate::{Bitmap, BitmapBuf, Error, Room, Row};
 use alloc::vec::Vec;
 use core::fmt;
 use core::mem::MaybeUninit;
-use core::ops::Range;
 
 mod strings;
 
@@ -45,9 +45,6 @@ enum Kept {
     // each by its first index and the one past its last; also where an index may have more than 4 bytes
     Runs(Vec<(usize, usize)>),
 }
-
-// To copy a run at once pays where runs have so many values, taken together. Fewer take less time one by one.
-pub(crate) const OF_A_RUN: usize = 24;
 
 // Of so few values, their indices take the least time.
 const FEW_VALUES: usize = 128;
@@ -211,7 +208,8 @@ impl Selection {
 
     // Writes each place. There is a row for each value, and a place for each true one.
     fn choose_to<T: Row>(&self, rows: &[T], out: &mut [MaybeUninit<T>]) {
-        if self.is_dense() && self.as_bitmap().choose_several(rows, out) {
+        // SAFETY: this is what is asked there too. A row is plain bytes.
+        if self.is_dense() && unsafe { choose_several(rows, &self.as_bitmap().chunks(), out) } {
             return;
         }
         let cells = as_cells(rows);
@@ -243,16 +241,5 @@ impl Selection {
 impl fmt::Debug for Selection {
     fn fmt(&self, f: &mut fmt::Formatter<'_>) -> fmt::Result {
         f.debug_struct("Selection").field("bitmap", &self.bitmap).finish_non_exhaustive()
-    }
-}
-
-// Copies runs of items, one behind another. (Never inlined, so that it changes no loop beside it.)
-#[inline(never)]
-pub(crate) fn copy_runs<T: Copy>(of: &[T], runs: impl Iterator<Item = Range<usize>>, to: &mut [T]) {
-    let mut at = 0;
-    for run in runs {
-        let end = at + run.len();
-        to[at..end].copy_from_slice(&of[run]);
-        at = end;
     }
 }

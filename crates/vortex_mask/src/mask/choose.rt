@@ -44,7 +44,7 @@ impl Mask {
 }
 
 // Puts the rows at the true values into an empty list with room for just these, which are so many.
-// rust: replaced by bitmap::choose::put_chosen_rows
+// rust: replaced by native::put_chosen_rows
 // rust: visible
 fn put_chosen_rows<T: Copy>(
     chosen_rows: &mut Vec<T>,

@@ -47,7 +47,7 @@ impl Mask {
             Mask::Values(values) => {
                 let (buffer, true_count) = (values.bit_buffer(), values.true_count());
                 let mut chosen_rows = Vec::with_room(true_count)?;
-                crate::bitmap::choose::put_chosen_rows(&mut chosen_rows, rows, buffer, true_count);
+                crate::native::put_chosen_rows(&mut chosen_rows, rows, buffer, true_count);
                 Ok(chosen_rows)
             }
         }

@@ -1,0 +1,223 @@
+//! Rows at the true values, by the loop for their size: several at once where the processor can.
+
+use super::processor::{Moved, moves_bytes, moves_eights, moves_fours};
+use crate::proved::mask_bits::push_rows::{choose_rows, choose_small_rows};
+use crate::proved::mask_bits::room::Lent;
+use crate::proved::mask_bits::small_rows::MoveRows;
+use crate::proved::mask_bits::{BitBuffer, BitChunks, SetSlices};
+use crate::proved::vortex_mask::mask::choose;
+use alloc::vec::Vec;
+use core::any::TypeId;
+use core::marker::PhantomData;
+use core::mem::{MaybeUninit, transmute};
+use core::ops::Range;
+use core::slice;
+
+// Several small rows are moved at once where one value in so many is true. Where fewer are, to count those of each word
+// takes longer than is gained.
+const ONE_TRUE_IN: usize = 8;
+
+// They are in words of so many true values or more, of rows of one byte, of four and of eight. Fewer take less time one by
+// one.
+const FEW_BYTES: usize = 6;
+const FEW_FOURS: usize = 8;
+const FEW_EIGHTS: usize = 10;
+
+// Rows of eight bytes are where three in so many values are true: by an instruction, of more values than these.
+const THREE_TRUE_IN: usize = 8;
+const FEW_VALUES: usize = 512;
+
+// The loop over words is compiled for x86-64-v3 too, which it asks for of more values than these (see `choose_rows`).
+const ANY_LEVEL: usize = 128;
+
+// Beside that one, runs have to have so many values, taken together, for copies of them to pay; beside the other `OF_A_RUN`.
+const OF_A_LONG_RUN: usize = 48;
+
+/// To copy a run at once pays where runs have so many values, taken together. Fewer take less time one by one.
+pub(crate) const OF_A_RUN: usize = 24;
+
+/// Writes the rows at the true values to their places.
+///
+/// # Safety
+/// There is a row for each value, and a place for each true one. A row is plain bytes, each of them written.
+pub(crate) unsafe fn choose_rows_by_size<T: Copy>(
+    rows: &[T],
+    chunks: BitChunks<'_>,
+    out: &mut [MaybeUninit<T>],
+) {
+    let (len, count) = (rows.len(), out.len());
+    // (between two runs there is a false value at least)
+    let of_a_run = if len > ANY_LEVEL { OF_A_LONG_RUN } else { OF_A_RUN };
+    let has_long_runs = (len - count).saturating_mul(of_a_run) <= count;
+    let has_many = count >= len / ONE_TRUE_IN;
+    let is_small = size_of::<T>() <= 4 || !has_long_runs;
+    // SAFETY: this is what is asked here too.
+    if has_many && is_small && unsafe { choose_several(rows, &chunks, out) } {
+        return;
+    }
+    let by_four = size_of::<T>() == 8 && len > ANY_LEVEL && is_dense(len, count);
+    let cells = as_cells(rows);
+    if has_long_runs {
+        copy_runs(cells, SetSlices::new(chunks).map(|(start, end)| start..end), out);
+    } else if by_four {
+        choose_rows::<4, _, _>(&mut Lent { out, at: 0 }, cells, &chunks);
+    } else {
+        choose_rows::<0, _, _>(&mut Lent { out, at: 0 }, cells, &chunks);
+    }
+}
+
+/// The same where several rows of this size are moved at once: it says whether they are.
+///
+/// # Safety
+/// As there.
+#[inline]
+pub(crate) unsafe fn choose_several<T: Copy>(
+    rows: &[T],
+    chunks: &BitChunks<'_>,
+    out: &mut [MaybeUninit<T>],
+) -> bool {
+    match size_of::<T>() {
+        1 if moves_bytes() => {
+            // SAFETY: a row is a byte, as is asked here. Each place gets one, and none is read before.
+            let (rows, out) = unsafe { as_byte_rows(rows, out) };
+            move_several::<FEW_BYTES, u8, Moved>(rows, chunks, out);
+            true
+        }
+        #[cfg(target_arch = "x86_64")]
+        4 if moves_fours() => {
+            // SAFETY: a row is four such bytes. Each place gets a row's, and none is read before.
+            let (rows, out) = unsafe { as_byte_rows(rows, out) };
+            move_several::<FEW_FOURS, [u8; 4], Moved>(rows, chunks, out);
+            true
+        }
+        #[cfg(target_arch = "x86_64")]
+        8 if rows.len() > FEW_VALUES && is_dense(rows.len(), out.len()) && moves_eights() => {
+            // SAFETY: a row is eight such bytes. Each place gets a row's, and none is read before.
+            let (rows, out) = unsafe { as_byte_rows(rows, out) };
+            move_several::<FEW_EIGHTS, [u8; 8], Moved>(rows, chunks, out);
+            true
+        }
+        _ => false,
+    }
+}
+
+/// Whether, with so many true values, so large a share is true that several rows of eight bytes are moved after one branch.
+fn is_dense(len: usize, count: usize) -> bool {
+    count / 3 >= len / THREE_TRUE_IN
+}
+
+/// The same of rows of bytes. (Inlined, it would slow down the loop beside it.)
+#[inline(never)]
+fn move_several<const FEW: usize, T: Copy, M: MoveRows<T>>(
+    rows: &[T],
+    chunks: &BitChunks<'_>,
+    out: &mut [T],
+) {
+    choose_small_rows::<FEW, M, _, _>(&mut Lent { out, at: 0 }, rows, chunks);
+}
+
+/// Copies runs of items, one behind another. (Never inlined, so that it changes no loop beside it.)
+#[inline(never)]
+pub(crate) fn copy_runs<T: Copy>(of: &[T], runs: impl Iterator<Item = Range<usize>>, to: &mut [T]) {
+    let mut at = 0;
+    for run in runs {
+        let end = at + run.len();
+        to[at..end].copy_from_slice(&of[run]);
+        at = end;
+    }
+}
+
+/// Rows as places that may be written or not.
+fn as_cells<T>(rows: &[T]) -> &[MaybeUninit<T>] {
+    // SAFETY: it is the same slice, and each of its places is written.
+    unsafe { slice::from_raw_parts(rows.as_ptr().cast(), rows.len()) }
+}
+
+/// Rows and their places as those of a type of bytes.
+///
+/// # Safety
+/// A row is plain bytes. `B` is a byte or an array of bytes, as long as a row. Each place is written before it is read.
+unsafe fn as_byte_rows<'a, T: Copy, B: Copy>(
+    rows: &'a [T],
+    out: &'a mut [MaybeUninit<T>],
+) -> (&'a [B], &'a mut [B]) {
+    debug_assert_eq!((size_of::<B>(), align_of::<B>()), (size_of::<T>(), 1));
+    // SAFETY: the slices have the same memory, in as many items of the same size. Any place is fit for bytes, whatever
+    // the one of a row is, and those of a row are all written. The rest is asked here.
+    unsafe {
+        (
+            slice::from_raw_parts(rows.as_ptr().cast(), rows.len()),
+            slice::from_raw_parts_mut(out.as_mut_ptr().cast(), out.len()),
+        )
+    }
+}
+
+/// Puts the rows at the true values into an empty list with room for just these, which are so many. It stands in the place
+/// of the proved function of this name, to which it leaves rows that aren't known to be plain bytes.
+pub(crate) fn put_chosen_rows<T: Copy>(
+    list: &mut Vec<T>,
+    rows: &[T],
+    buffer: &BitBuffer,
+    count: usize,
+) {
+    if !is_number::<T>() {
+        return choose::put_chosen_rows(list, rows, buffer, count);
+    }
+    let out = &mut list.spare_capacity_mut()[..count];
+    // SAFETY: a number is plain bytes. There is a row for each value, and just so many are true, as the proved function is
+    // called. So each place is written.
+    unsafe {
+        choose_rows_by_size(rows, buffer.chunks(), out);
+        list.set_len(count);
+    }
+}
+
+/// Whether a type is a number, `bool` or `char`.
+#[inline]
+fn is_number<T>() -> bool {
+    macro_rules! is_one_of {
+        ($($number:ty)*) => {{
+            let this = id_of::<T>();
+            $(this == TypeId::of::<$number>())||*
+        }};
+    }
+    is_one_of!(u8 i8 bool u16 i16 u32 i32 f32 char u64 i64 f64 usize isize u128 i128)
+}
+
+/// What tells a type from others, but for its lifetimes.
+#[inline]
+fn id_of<T>() -> TypeId {
+    trait Identified {
+        fn id(&self) -> TypeId
+        where
+            Self: 'static;
+    }
+    impl<T> Identified for PhantomData<T> {
+        #[inline]
+        fn id(&self) -> TypeId
+        where
+            Self: 'static,
+        {
+            TypeId::of::<T>()
+        }
+    }
+    let of: PhantomData<T> = PhantomData;
+    // SAFETY: nothing is read through the reference, and the method doesn't depend on lifetimes.
+    unsafe { transmute::<&dyn Identified, &(dyn Identified + 'static)>(&of) }.id()
+}
+
+#[cfg(test)]
+mod tests {
+    use super::is_number;
+
+    fn is_of_numbers<T>(_: T) -> bool {
+        is_number::<T>()
+    }
+
+    #[test]
+    fn numbers_are_known() {
+        assert!(is_of_numbers(7_u8) && is_of_numbers(0.5) && is_of_numbers('a'));
+        assert!(!is_of_numbers([7_u8; 4]) && !is_of_numbers((7_u8, 7_u8)));
+        assert!(!is_of_numbers(&*String::from("a")) && !is_of_numbers(Some(7_u32)));
+    }
+}
