@@ -9,7 +9,7 @@ ghost use Rattle.mask_bits.specs.Rows.{AreLeft, AreLeftAsComputed};
 ghost use Rattle.mask_bits.specs.Words.{word_bits};
 
 use crate::buffer::BitBuffer;
-use crate::byte_list::ByteList;
+use crate::byte_list::{ByteList, unwritten};
 use crate::combine::{And, combine};
 use crate::from_rows::{word_of_rows, word_of_whole};
 use crate::unchecked::put_lowest;
@@ -58,7 +58,7 @@ fn copied(alloc: Global, buffer: &BitBuffer) -> Result<ByteList, AllocError>
     ensures covered { IfOk result (λ bytes. length (values buffer.now) ≤ 8 * vec_len bytes) }
 {
     let (bits, offset, len) = (buffer.bits(), buffer.offset(), buffer.len());
-    let mut bytes = vec![in alloc; 0u8; 8 * started_words(len)]?;
+    let mut bytes = unwritten(alloc, 8 * started_words(len))?;
     // (what is true in a list and in the same one)
     combine::<And>(bits, offset, bits, offset, len, &mut bytes);
     Ok(bytes)

@@ -5,6 +5,7 @@ ghost use Rattle.mask_bits.specs.Buffer.{values};
 ghost use Rattle.mask_bits.specs.Lists.{and_of, or_of, and_not_of, not_of, combined};
 
 use crate::buffer::BitBuffer;
+use crate::byte_list::unwritten;
 use crate::combine::{And, AndNot, BitOp, Not, Or, combine, combine_in_place, negate_in_place};
 use crate::words::started_words;
 use std::alloc::{AllocError, Global};
@@ -114,7 +115,7 @@ pub(crate) fn combined_buffer<C: BitOp>(
     ensures { IfOk result (λ r. values r ≡ combined C.of_bits (values a.now) (values b.now)) }
 {
     let len = a.len();
-    let mut out = vec![in alloc; 0u8; 8 * started_words(len)]?;
+    let mut out = unwritten(alloc, 8 * started_words(len))?;
     combine::<C>(a.bits(), a.offset(), b.bits(), b.offset(), len, &mut out);
     BitBuffer::from_list(out, len)
 }

@@ -10,7 +10,7 @@ ghost use Rattle.mask_bits.specs.Text.{buffer_text};
 
 use crate::bit_iterator::BitIterator;
 use crate::bools::put_bools;
-use crate::byte_list::{ByteList, byte_list};
+use crate::byte_list::{ByteList, byte_list, unwritten};
 use crate::chunks::BitChunks;
 use crate::counts::count_bits;
 use crate::words::started_words;
@@ -142,7 +142,7 @@ impl BitBuffer {
     fn from_slice(alloc: Global, bools: &[bool]) -> Result<BitBuffer, AllocError>
         ensures { IfOk result (λ b. values b ≡ bools.now) }
     {
-        let mut bytes = vec![in alloc; 0u8; 8 * started_words(bools.len())]?;
+        let mut bytes = unwritten(alloc, 8 * started_words(bools.len()))?;
         put_bools(&mut bytes, bools);
         BitBuffer::from_list(bytes, bools.len())
     }

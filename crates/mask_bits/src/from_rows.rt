@@ -11,6 +11,7 @@ ghost use Rattle.mask_bits.specs.Words.{word_bits, started_words};
 
 use crate::bools::{word_of_lanes, word_of_sixteen_lanes};
 use crate::buffer::BitBuffer;
+use crate::byte_list::unwritten;
 use crate::words::{set_word, started_words};
 use std::alloc::{AllocError, Global};
 use std::mem::size_of_val;
@@ -34,7 +35,7 @@ impl BitBuffer {
             (λ b. AreAnswers (FnReturnsAt F.Fn test) rows.now (values b)) }
         ensures list { IfOk result (λ b. AreAsComputed (F.post test) rows.now (values b)) }
     {
-        let mut bytes = vec![in alloc; 0u8; 8 * started_words(rows.len())]?;
+        let mut bytes = unwritten(alloc, 8 * started_words(rows.len()))?;
         put_answers(&mut bytes, rows, &test);
         BitBuffer::from_list(bytes, rows.len())
     }

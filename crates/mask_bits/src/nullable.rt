@@ -12,7 +12,7 @@ ghost use Rattle.std.specs.Option.{option_map};
 
 use crate::bitops::combined_buffer;
 use crate::buffer::BitBuffer;
-use crate::byte_list::ByteList;
+use crate::byte_list::{ByteList, unwritten};
 use crate::combine::OrNot;
 use crate::kleene::{KleeneAnd, KleeneOp, KleeneOr, NullableBitmap, combine_kleene};
 use crate::words::started_words;
@@ -234,8 +234,8 @@ fn combined_by_table<C: KleeneOp>(
     ensures cleared { IfOk result (λ r. values r.values ≡ is_true_of (nullable_values r)) }
 {
     let len = a.len();
-    let mut values = vec![in alloc; 0u8; 8 * started_words(len)]?;
-    let mut validity = vec![in alloc; 0u8; 8 * started_words(len)]?;
+    let mut values = unwritten(alloc, 8 * started_words(len))?;
+    let mut validity = unwritten(alloc, 8 * started_words(len))?;
     write_by_table::<C>(a, b, &mut values, &mut validity);
     with_validity(values, validity, len)
 }

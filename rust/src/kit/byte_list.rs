@@ -4,7 +4,7 @@
 use super::AllocError;
 use super::bytes::room_to_share;
 use super::few_bytes::FewBytes;
-use super::list::{List, filled_within};
+use super::list::{self, List, filled_within};
 use alloc::vec::Vec;
 use core::ops::{Deref, DerefMut};
 
@@ -20,6 +20,18 @@ pub enum ByteList {
 #[inline]
 pub fn byte_list(list: Vec<u8>) -> ByteList {
     ByteList::Many(list)
+}
+
+/// Room for so many bytes, which is written before it is read.
+///
+/// # Errors
+/// [`AllocError`] where memory is refused.
+#[inline]
+pub(crate) fn unwritten(count: usize) -> Result<ByteList, AllocError> {
+    match FewBytes::filled(0, count) {
+        Some(few) => Ok(ByteList::Few(few)),
+        None => Ok(ByteList::Many(list::unwritten(count, room_to_share(count))?)),
+    }
 }
 
 impl From<Vec<u8>> for ByteList {

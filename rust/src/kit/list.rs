@@ -185,6 +185,16 @@ pub(crate) fn zeros(count: usize) -> Result<Vec<u8>, AllocError> {
     filled_within(0, count, count)
 }
 
+/// So many bytes that aren't written yet, in a list with room for so many.
+#[inline]
+pub(crate) fn unwritten(count: usize, room: usize) -> Result<Vec<u8>, AllocError> {
+    let mut list = Vec::with_room(room.max(count))?;
+    // SAFETY: there is room for so many. The proved callers write each byte and read none before, and no clause of theirs
+    // depends on what is there.
+    unsafe { list.set_len(count) };
+    Ok(list)
+}
+
 /// So many bytes that are the same, in a list with room for so many.
 #[inline]
 pub(crate) fn filled_within(byte: u8, count: usize, room: usize) -> Result<Vec<u8>, AllocError> {

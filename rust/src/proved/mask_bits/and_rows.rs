@@ -4,7 +4,7 @@
 use crate::kit::AllocError;
 use crate::kit::prelude::*;
 use crate::proved::mask_bits::buffer::BitBuffer;
-use crate::proved::mask_bits::byte_list::ByteList;
+use crate::proved::mask_bits::byte_list::{ByteList, unwritten};
 use crate::proved::mask_bits::combine::{And, combine};
 use crate::proved::mask_bits::from_rows::{word_of_rows, word_of_whole};
 use crate::proved::mask_bits::unchecked::put_lowest;
@@ -70,7 +70,7 @@ impl BitBuffer {
 #[inline]
 fn copied(buffer: &BitBuffer) -> Result<ByteList, AllocError> {
     let (bits, offset, len) = (buffer.bits(), buffer.offset(), buffer.len());
-    let mut bytes = crate::kit::filled(0u8, 8 * started_words(len))?;
+    let mut bytes = unwritten(8 * started_words(len))?;
     // (what is true in a list and in the same one)
     combine::<And>(bits, offset, bits, offset, len, &mut bytes);
     Ok(bytes)

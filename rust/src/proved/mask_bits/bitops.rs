@@ -4,6 +4,7 @@
 use crate::kit::AllocError;
 use crate::kit::prelude::*;
 use crate::proved::mask_bits::buffer::BitBuffer;
+use crate::proved::mask_bits::byte_list::unwritten;
 use crate::proved::mask_bits::combine::{
     And, AndNot, BitOp, Not, Or, combine, combine_in_place, negate_in_place,
 };
@@ -233,7 +234,7 @@ pub(crate) fn combined_buffer<C: BitOp>(
     b: &BitBuffer,
 ) -> Result<BitBuffer, AllocError> {
     let len = a.len();
-    let mut out = crate::kit::filled(0u8, 8 * started_words(len))?;
+    let mut out = unwritten(8 * started_words(len))?;
     combine::<C>(a.bits(), a.offset(), b.bits(), b.offset(), len, &mut out);
     BitBuffer::from_list(out, len)
 }

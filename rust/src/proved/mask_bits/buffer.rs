@@ -6,7 +6,7 @@ use crate::kit::prelude::*;
 use crate::kit::{Bytes, BytesMut};
 use crate::proved::mask_bits::bit_iterator::BitIterator;
 use crate::proved::mask_bits::bools::put_bools;
-use crate::proved::mask_bits::byte_list::{ByteList, byte_list};
+use crate::proved::mask_bits::byte_list::{ByteList, byte_list, unwritten};
 use crate::proved::mask_bits::chunks::BitChunks;
 use crate::proved::mask_bits::counts::count_bits;
 use crate::proved::mask_bits::words::started_words;
@@ -215,7 +215,7 @@ impl BitBuffer {
 
     #[inline(always)]
     fn from_slice(bools: &[bool]) -> Result<BitBuffer, AllocError> {
-        let mut bytes = crate::kit::filled(0u8, 8 * started_words(bools.len()))?;
+        let mut bytes = unwritten(8 * started_words(bools.len()))?;
         put_bools(&mut bytes, bools);
         BitBuffer::from_list(bytes, bools.len())
     }

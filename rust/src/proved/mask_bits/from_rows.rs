@@ -5,6 +5,7 @@ use crate::kit::AllocError;
 use crate::kit::prelude::*;
 use crate::proved::mask_bits::bools::{word_of_lanes, word_of_sixteen_lanes};
 use crate::proved::mask_bits::buffer::BitBuffer;
+use crate::proved::mask_bits::byte_list::unwritten;
 use crate::proved::mask_bits::words::{set_word, started_words};
 use ::core::mem::size_of_val;
 
@@ -61,7 +62,7 @@ impl BitBuffer {
 
     #[inline(always)]
     fn from_rows_any<T, F: Fn(&T) -> bool>(rows: &[T], test: F) -> Result<BitBuffer, AllocError> {
-        let mut bytes = crate::kit::filled(0u8, 8 * started_words(rows.len()))?;
+        let mut bytes = unwritten(8 * started_words(rows.len()))?;
         put_answers(&mut bytes, rows, &mut { test });
         BitBuffer::from_list(bytes, rows.len())
     }

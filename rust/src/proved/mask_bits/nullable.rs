@@ -5,7 +5,7 @@ use crate::kit::AllocError;
 use crate::kit::prelude::*;
 use crate::proved::mask_bits::bitops::combined_buffer;
 use crate::proved::mask_bits::buffer::BitBuffer;
-use crate::proved::mask_bits::byte_list::ByteList;
+use crate::proved::mask_bits::byte_list::{ByteList, unwritten};
 use crate::proved::mask_bits::combine::OrNot;
 use crate::proved::mask_bits::kleene::{
     KleeneAnd, KleeneOp, KleeneOr, NullableBitmap, combine_kleene,
@@ -282,8 +282,8 @@ fn combined_by_table<C: KleeneOp>(
     b: &NullableBitBuffer,
 ) -> Result<NullableBitBuffer, AllocError> {
     let len = a.len();
-    let mut values = crate::kit::filled(0u8, 8 * started_words(len))?;
-    let mut validity = crate::kit::filled(0u8, 8 * started_words(len))?;
+    let mut values = unwritten(8 * started_words(len))?;
+    let mut validity = unwritten(8 * started_words(len))?;
     write_by_table::<C>(a, b, &mut values, &mut validity);
     with_validity(values, validity, len)
 }
