@@ -2,6 +2,7 @@
 //! quickest is the one that counts.
 
 mod bits;
+mod compress;
 mod masks;
 mod pack;
 mod rows;
@@ -11,10 +12,13 @@ use crate::Call;
 use crate::lists::{Lists, Packed};
 use crate::ours::digest;
 use bits::{
-    and, and_moved, bit_by_bit, bits_one_by_one, by_pdep, by_pext, count, equal_moved, filtered,
-    filtered_in_room,
+    and, and_moved, and_of_few, bit_by_bit, bits_one_by_one, by_pdep, by_pext, count, equal_moved,
+    filtered, filtered_in_room,
 };
-use pack::{packed, packed_by_avx2, packed_by_eights, packed_by_lanes, packed_by_shifts};
+use compress::{choose_by_avx2, choose_by_avx512, choose_one_by_one};
+use pack::{
+    packed, packed_by_avx2, packed_by_avx512, packed_by_eights, packed_by_lanes, packed_by_shifts,
+};
 use rows::{
     choose, choose_all, choose_by_pushes, found, found_by_words, gathered, retained, strings,
     sum_of_indices, sum_of_rows,
@@ -31,6 +35,7 @@ impl ByHand<'_> {
         let (rows, column, len) = (&lists.rows[..], &lists.column[..], lists.len);
         match name {
             "count" => vec![Box::new(move || count(a) as u64)],
+            "and" if len <= 128 => vec![Box::new(move || last(&and_of_few(a, b), len))],
             "and" => vec![Box::new(move || last(&and(a, b), len))],
             "and, at odd bits" => {
                 vec![Box::new(move || last(&and_moved(a_moved, b_moved, len), len))]
@@ -44,10 +49,19 @@ impl ByHand<'_> {
             "rank intersection, no pdep" => {
                 vec![Box::new(move || last(&bit_by_bit(a, ranks), len))]
             }
-            "choose" => vec![
+            "choose" | "Mask::choose" => vec![
                 Box::new(move || choose(a, rows).last().copied().unwrap_or(0)),
                 Box::new(move || choose_by_pushes(a, rows).last().copied().unwrap_or(0)),
                 Box::new(move || choose_all(a, rows).last().copied().unwrap_or(0)),
+                Box::new(move || choose_by_avx2(a, rows).last().copied().unwrap_or(0)),
+                Box::new(move || choose_by_avx512(a, rows).last().copied().unwrap_or(0)),
+            ],
+            "choose, of 4 bytes"
+            | "choose, of 4 bytes, by a selection"
+            | "Mask::choose, of 4 bytes" => vec![
+                Box::new(move || choose_one_by_one(a, column).last().map_or(0, |it| (*it).into())),
+                Box::new(move || choose_by_avx2(a, column).last().map_or(0, |it| (*it).into())),
+                Box::new(move || choose_by_avx512(a, column).last().map_or(0, |it| (*it).into())),
             ],
             "choose bits, by pext" => vec![
                 Box::new(move || last_of(&by_pext(a, b))),
@@ -61,6 +75,8 @@ impl ByHand<'_> {
             "choose, by a selection" => vec![
                 Box::new(move || gathered(&lists.indices, rows).last().copied().unwrap_or(0)),
                 Box::new(move || choose(a, rows).last().copied().unwrap_or(0)),
+                Box::new(move || choose_by_avx2(a, rows).last().copied().unwrap_or(0)),
+                Box::new(move || choose_by_avx512(a, rows).last().copied().unwrap_or(0)),
             ],
             "choose bits, by a selection" => vec![
                 Box::new(move || last_of(&by_pext(a, b))),
@@ -88,6 +104,7 @@ impl ByHand<'_> {
             "from_rows of a predicate" | "collect a predicate" | "from_fn of a predicate" => vec![
                 Box::new(move || last(&packed_by_lanes(column, lists.share), len)),
                 Box::new(move || last(&packed_by_avx2(column, lists.share), len)),
+                Box::new(move || last(&packed_by_avx512(column, lists.share), len)),
                 Box::new(move || last(&packed(column, |it| it < lists.share), len)),
                 Box::new(move || last(&packed_by_shifts(column, |it| it < lists.share), len)),
                 Box::new(move || last(&packed_by_eights(column, |it| it < lists.share), len)),

@@ -29,12 +29,21 @@ impl Ours<'_> {
                 Box::new(move || last(a.intersect_by_rank(ranks).unwrap()))
             }
             "choose" => Box::new(move || a.choose(rows).unwrap().last().copied().unwrap_or(0)),
+            "choose, of 4 bytes" => Box::new(move || {
+                a.choose(&lists.column).unwrap().last().map_or(0, |it| (*it).into())
+            }),
             "choose bits, by pext" | "choose bits, no pext" | "choose bits, of Vec<bool>" => {
                 Box::new(move || last(a.choose_bits(b).unwrap()))
             }
             "choose, by a selection" => {
                 let chosen = Selection::new(a);
                 Box::new(move || chosen.choose(rows).unwrap().last().copied().unwrap_or(0))
+            }
+            "choose, of 4 bytes, by a selection" => {
+                let chosen = Selection::new(a);
+                Box::new(move || {
+                    chosen.choose(&lists.column).unwrap().last().map_or(0, |it| (*it).into())
+                })
             }
             "choose bits, by a selection" => {
                 let chosen = Selection::new(a);

@@ -15,6 +15,8 @@ use std::time::Duration;
 const ROUNDS: usize = 4;
 const EACH: Duration = Duration::from_millis(50);
 const SHARES: [(Share, &str); 3] = [(10, "1%"), (500, "50%"), (990, "99%")];
+#[cfg(not(row_mask_one_level))]
+const SHARES_OF_BATCHES: [(Share, &str); 3] = [(100, "10%"), (500, "50%"), (900, "90%")];
 // Of the second table, and of all lines of `turns`.
 const LENGTHS: [usize; 4] = [100, 1000, 1 << 16, 1 << 20];
 
@@ -24,6 +26,7 @@ pub struct Table {
     ours: &'static str,
     calls: &'static [&'static str],
     lengths: &'static [usize],
+    shares: [(Share, &'static str); 3],
     peers: &'static [&'static str],
 }
 
@@ -34,11 +37,12 @@ pub const TABLES: [Table; 1] = [Table {
     ours: "row-mask",
     calls: &["rank intersection, no pdep", "choose bits, no pext"],
     lengths: &[1 << 16, 1 << 20],
+    shares: SHARES,
     peers: &[],
 }];
 
 #[cfg(not(row_mask_one_level))]
-pub const TABLES: [Table; 2] = [
+pub const TABLES: [Table; 3] = [
     Table {
         heading: "## Table",
         ours: "row-mask",
@@ -65,7 +69,28 @@ pub const TABLES: [Table; 2] = [
             "scan",
         ],
         lengths: &[1 << 16, 1 << 20],
+        shares: SHARES,
         peers: &NAMES,
+    },
+    Table {
+        heading: "## Batches",
+        ours: "row-mask",
+        calls: &[
+            "and",
+            "rank intersection",
+            "choose",
+            "choose, of 4 bytes",
+            "choose, by a selection",
+            "choose, of 4 bytes, by a selection",
+            "Mask::choose",
+            "Mask::choose, of 4 bytes",
+            "from_rows of a predicate",
+            "collect a predicate",
+            "scan",
+        ],
+        lengths: &[100, 1024, 8192],
+        shares: SHARES_OF_BATCHES,
+        peers: &[],
     },
     Table {
         heading: "## Masks",
@@ -82,13 +107,20 @@ pub const TABLES: [Table; 2] = [
             "Mask::concat",
         ],
         lengths: &LENGTHS,
+        shares: SHARES,
         peers: &[],
     },
 ];
 
 /// The names of all calls.
 pub fn calls() -> impl Iterator<Item = &'static str> {
-    TABLES.iter().flat_map(|table| table.calls).copied()
+    let mut calls: Vec<&str> = Vec::new();
+    for name in TABLES.iter().flat_map(|table| table.calls) {
+        if !calls.contains(name) {
+            calls.push(name);
+        }
+    }
+    calls.into_iter()
 }
 
 /// Each line of `turns`: a call, of how many rows, and of how many in 1,000 true ones.
@@ -122,7 +154,7 @@ impl Table {
     /// The lines of the calls that are asked for, or nothing where none is.
     pub fn timed(&self, is_asked: impl Fn(&str) -> bool) -> String {
         let of_call = |name| {
-            SHARES
+            self.shares
                 .map(|(share, said)| self.lengths.iter().map(move |len| (name, *len, share, said)))
         };
         let asked = self.calls.iter().filter(|name| is_asked(name));

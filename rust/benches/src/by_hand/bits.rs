@@ -7,6 +7,15 @@ pub fn count(words: &[u64]) -> usize {
     words.iter().map(|word| word.count_ones() as usize).sum()
 }
 
+/// Of at most 128 values, which takes no memory.
+pub fn and_of_few(a: &[u64], b: &[u64]) -> [u64; 2] {
+    let mut out = [0; 2];
+    for ((out, a), b) in out.iter_mut().zip(a).zip(b) {
+        *out = a & b;
+    }
+    out
+}
+
 pub fn and(a: &[u64], b: &[u64]) -> Vec<u64> {
     a.iter().zip(b).map(|(a, b)| a & b).collect()
 }

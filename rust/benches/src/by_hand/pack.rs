@@ -3,7 +3,8 @@
 use std::arch::x86_64::{
     __m128i, __m256i, _mm_cmpgt_epi32, _mm_loadu_si128, _mm_movemask_epi8, _mm_packs_epi16,
     _mm_packs_epi32, _mm_set1_epi32, _mm256_castsi256_ps, _mm256_cmpgt_epi32, _mm256_loadu_si256,
-    _mm256_movemask_ps, _mm256_set1_epi32,
+    _mm256_movemask_ps, _mm256_set1_epi32, _mm512_cmplt_epu32_mask, _mm512_loadu_si512,
+    _mm512_set1_epi32,
 };
 
 /// Eight rows in a comparison, and its bits, where the processor has AVX2. Rows are below 2^31.
@@ -25,6 +26,34 @@ pub fn packed_by_avx2(column: &[u32], share: u32) -> Vec<u64> {
         for part in whole {
             let (parts, _) = part.as_chunks::<8>();
             out.push(parts.iter().rev().fold(0, |word, part| word << 8 | bits(part)));
+        }
+        if !last.is_empty() {
+            out.push(last.iter().rev().fold(0, |word, it| word << 1 | u64::from(*it < share)));
+        }
+        out
+    }
+    // SAFETY: the processor has it.
+    unsafe { compared(column, share) }
+}
+
+/// Sixteen rows in a comparison that gives their bits, where the processor has AVX-512.
+pub fn packed_by_avx512(column: &[u32], share: u32) -> Vec<u64> {
+    if !is_x86_feature_detected!("avx512f") {
+        return packed_by_avx2(column, share);
+    }
+    #[target_feature(enable = "avx512f")]
+    fn compared(column: &[u32], share: u32) -> Vec<u64> {
+        let shares = _mm512_set1_epi32(share.cast_signed());
+        let bits = |part: &[u32; 16]| {
+            // SAFETY: sixteen rows are read.
+            let rows = unsafe { _mm512_loadu_si512(part.as_ptr().cast()) };
+            u64::from(_mm512_cmplt_epu32_mask(rows, shares))
+        };
+        let (whole, last) = column.as_chunks::<64>();
+        let mut out = Vec::with_capacity(column.len().div_ceil(64));
+        for part in whole {
+            let (parts, _) = part.as_chunks::<16>();
+            out.push(parts.iter().rev().fold(0, |word, part| word << 16 | bits(part)));
         }
         if !last.is_empty() {
             out.push(last.iter().rev().fold(0, |word, it| word << 1 | u64::from(*it < share)));

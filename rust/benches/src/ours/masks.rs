@@ -13,6 +13,12 @@ pub fn call<'a>(lists: &'a Lists, name: &str) -> Option<Call<'a>> {
         "Mask::intersect_by_rank" => {
             Box::new(move || byte(&a.try_intersect_by_rank(&ranks).unwrap(), len - 1))
         }
+        "Mask::choose" => {
+            Box::new(move || a.try_choose(&lists.rows).unwrap().last().copied().unwrap_or(0))
+        }
+        "Mask::choose, of 4 bytes" => Box::new(move || {
+            a.try_choose(&lists.column).unwrap().last().map_or(0, |it| (*it).into())
+        }),
         "Mask::bitand" => Box::new(move || byte(&a.try_bitand(&b).unwrap(), len - 1)),
         "Mask::bitor" => Box::new(move || byte(&a.try_bitor(&b).unwrap(), len - 1)),
         "Mask::not" => Box::new(move || byte(&a.try_not().unwrap(), len - 1)),
