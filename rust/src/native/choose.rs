@@ -1,6 +1,8 @@
 //! Rows at the true values, by the loop for their size: several at once where the processor can.
 
-use super::processor::{Moved, moves_bytes, moves_eights, moves_fours};
+use super::processor::{Moved, moves_bytes};
+#[cfg(target_arch = "x86_64")]
+use super::processor::{moves_eights, moves_fours};
 use crate::proved::mask_bits::push_rows::{choose_rows, choose_small_rows};
 use crate::proved::mask_bits::room::Lent;
 use crate::proved::mask_bits::small_rows::MoveRows;
@@ -20,11 +22,14 @@ const ONE_TRUE_IN: usize = 8;
 // They are in words of so many true values or more, of rows of one byte, of four and of eight. Fewer take less time one by
 // one.
 const FEW_BYTES: usize = 6;
+#[cfg(target_arch = "x86_64")]
 const FEW_FOURS: usize = 8;
+#[cfg(target_arch = "x86_64")]
 const FEW_EIGHTS: usize = 10;
 
 // Rows of eight bytes are where three in so many values are true: by an instruction, of more values than these.
 const THREE_TRUE_IN: usize = 8;
+#[cfg(target_arch = "x86_64")]
 const FEW_VALUES: usize = 512;
 
 // The loop over words is compiled for x86-64-v3 too, which it asks for of more values than these (see `choose_rows`).

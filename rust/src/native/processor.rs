@@ -20,21 +20,17 @@ pub fn moves_bytes() -> bool {
 }
 
 /// Whether several rows of four bytes are: by an instruction of x86-64-v3.
+#[cfg(target_arch = "x86_64")]
 #[inline(always)]
 pub(crate) fn moves_fours() -> bool {
-    #[cfg(target_arch = "x86_64")]
-    return cfg!(target_feature = "avx2") || has_v3();
-    #[cfg(not(target_arch = "x86_64"))]
-    return false;
+    cfg!(target_feature = "avx2") || has_v3()
 }
 
 /// Whether several rows of eight bytes are: by an instruction of AVX-512.
+#[cfg(target_arch = "x86_64")]
 #[inline(always)]
 pub(crate) fn moves_eights() -> bool {
-    #[cfg(target_arch = "x86_64")]
-    return cfg!(target_feature = "avx512f") || has_v4();
-    #[cfg(not(target_arch = "x86_64"))]
-    return false;
+    cfg!(target_feature = "avx512f") || has_v4()
 }
 
 /// What moves them, where the answer is yes.
