@@ -228,7 +228,8 @@ impl Line {
         let (by_hand, ours, peers) = (ByHand(lists), Ours(lists), Peers::new(lists));
         let mut calls = compared(&by_hand, &ours, self.name);
         let hands = calls.len() - 1;
-        let peers = peers.calls(self.name);
+        // (a table has columns for all of them, or for none)
+        let peers: Vec<_> = peers.calls(self.name).into_iter().take(self.peers.len()).collect();
         let has: Vec<bool> = peers.iter().map(Option::is_some).collect();
         calls.extend(peers.into_iter().flatten());
         calls.extend(ours.beside(self.name));
