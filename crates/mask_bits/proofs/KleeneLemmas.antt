@@ -1,5 +1,5 @@
 -- The words that the loop over two lists with nulls reads and writes.
-use Rattle.mask_bits.proofs.Common.{Bor, ap₂, option_map, subst, take, ◌++◌, ◌≡◌, ℕ, zero, suc, ◌+◌, ◌*◌, ◌-◌, ◌<◌, ◌≤◌, ◌⊎◌, ◌^◌, Bool, true, false, ◌&&◌, ◌||◌, List, [], ◌∷◌, length, get_or, map, Option, None, Some, refl, sym, ap, ◌∙◌, inl, inr, cases_lt, arith, ◌/◌, ◌%◌, drop, bitmap, values, bit_and, bit_or, bit_not, w64, ext_get_or, and_of, or_of, not_of, backing_bit, word_bits, window, get_or-map}
+use Rattle.mask_bits.proofs.Common.{Bor, ap₂, option_map, subst, take, ◌++◌, ◌≡◌, ℕ, zero, suc, ◌+◌, ◌*◌, ◌-◌, ◌<◌, ◌≤◌, ◌⊎◌, ◌^◌, Bool, true, false, ◌&&◌, ◌||◌, List, [], ◌∷◌, length, get_or, map, Option, None, Some, refl, sym, ap, ◌∙◌, arith, ◌/◌, ◌%◌, drop, bitmap, values, bit_and, bit_or, bit_not, w64, ext_get_or, and_of, or_of, not_of, backing_bit, word_bits, window, get_or-map}
 use Rattle.std.proofs.lemmas.List.{length-map, map-append}
 use Rattle.std.proofs.lemmas.Nat.Bits.{bit_at-zero, bit_at_ones}
 use Rattle.std.specs.Int.{bit_at}
@@ -13,7 +13,7 @@ use Rattle.mask_bits.proofs.CombineLemmas.{word_bits-combined, backing_bit-drop}
 use Rattle.mask_bits.proofs.Lists.BooleanLemmas.{length-not_of, length-combined, get_or-combined}
 use Rattle.mask_bits.proofs.Lists.NullableLemmas.{by_values_2, map_combined}
 use Rattle.mask_bits.proofs.Lists.Words.BackingBitLemmas.{bitmap-append, length-bitmap, get_or-bitmap}
-use Rattle.mask_bits.proofs.Lists.Words.FrontLemmas.{length-window, get_or-window, window-take}
+use Rattle.mask_bits.proofs.Lists.Words.FrontLemmas.{bits-more, length-window, get_or-window, window-take}
 use Rattle.mask_bits.proofs.Lists.Words.ShiftLemmas.{get_or-word_bits_and, get_or-word_bits_or, get_or-word_bits_not}
 use Rattle.mask_bits.proofs.Lists.Words.WordLemmas.{length-word_bits, get_or-word_bits}
 
@@ -135,20 +135,13 @@ pub AreOfTable-step : (h : Option Bool → Bool) (table : Option Bool → Option
     → window new (64 * i) ≡ m
     → ((k : ℕ) → ((k < 64 * i) ⊎ (64 * i + 64 ≤ k)) → backing_bit new k ≡ backing_bit out k)
     → AreOfTable h table (value_at a) (value_at b) new (64 * (i + 1))
-AreOfTable-step h table a b out new i m before is wrote others = λ k below.
+AreOfTable-step h table a b out new i m before is wrote others =
     let x : List (Option Bool) = word_values a i in
     let y : List (Option Bool) = word_values b i in
-    elim (cases_lt k (64 * i)) [
-      | inl under ↦ others k (inl under) ∙ before k under
-      | inr over ↦
-          let j : ℕ = k - 64 * i in
-          let few : j < 64 = omega arith in
-          let at : 64 * i + j ≡ k = omega arith in
-          let bit : backing_bit new k ≡ get_or m j false = ap (backing_bit new) (sym at) ∙ sym (get_or-window new (64 * i) j false few) ∙ ap (λ (xs : List Bool). get_or xs j false) wrote in
-          let of : get_or m j false ≡ h (table (get_or x j None) (get_or y j None))
-          = ap (λ (xs : List Bool). get_or xs j false) is ∙ get_or-table h table x y j (omega (arith, length-word_values a i)) (length-word_values a i ∙ sym (length-word_values b i)) in
-          bit ∙ of ∙ grind (arith, word_value a i j few, word_value b i j few, at)
-    ]
+    bits-more (λ k. h (table (value_at a k) (value_at b k))) out new i before others (λ j few.
+    ap (λ (xs : List Bool). get_or xs j false) (wrote ∙ is)
+    ∙ get_or-table h table x y j (omega (arith, length-word_values a i)) (length-word_values a i ∙ sym (length-word_values b i))
+    ∙ ap₂ (λ (s t : Option Bool). h (table s t)) (word_value a i j few) (word_value b i j few))
 
 -- ---- lists
 

@@ -54,20 +54,28 @@ get_or-put_mid_inside a e xs ys m within len inside = grind (arith, get_or-betwe
 
 -- ---- one word behind another
 
+-- bits that are the first values of f, and 64 more that are those that follow
+pub bits-more : (f : ℕ → Bool) (old new : List ℕ) (i : ℕ) → ((p : ℕ) → p < 64 * i → backing_bit old p ≡ f p)
+    → ((p : ℕ) → ((p < 64 * i) ⊎ (64 * i + 64 ≤ p)) → backing_bit new p ≡ backing_bit old p)
+    → ((j : ℕ) → j < 64 → get_or (window new (64 * i)) j false ≡ f (64 * i + j))
+    → (p : ℕ) → p < 64 * (i + 1) → backing_bit new p ≡ f p
+bits-more f old new i before others here p h =
+    elim (cases_lt p (64 * i)) [
+      | inl earlier ↦ others p (inl earlier) ∙ before p earlier
+      | inr behind ↦
+          let j : ℕ = p - 64 * i in
+          let few : j < 64 = omega arith in
+          let at : 64 * i + j ≡ p = omega arith in
+          ap (backing_bit new) (sym at) ∙ sym (get_or-window new (64 * i) j false few) ∙ here j few ∙ ap f at
+    ]
+
 -- words that hold the first values of a list, and one more that holds those that follow
 pub words-more : (old new : List ℕ) (m part : List Bool) (i w : ℕ) → ((p : ℕ) → p < 64 * i → backing_bit old p ≡ get_or m p false)
     → window new (64 * i) ≡ word_bits w → ((p : ℕ) → ((p < 64 * i) ⊎ (64 * i + 64 ≤ p)) → backing_bit new p ≡ backing_bit old p)
     → ((j : ℕ) → j < 64 → get_or (word_bits w) j false ≡ get_or part j false) → ((j : ℕ) → j < 64 → get_or part j false ≡ get_or m (64 * i + j) false)
     → (p : ℕ) → p < 64 * (i + 1) → backing_bit new p ≡ get_or m p false
-words-more old new m part i w before wrote others is_word is_part p h =
-    elim (cases_lt p (64 * i)) [
-      | inl earlier ↦ others p (inl earlier) ∙ before p earlier
-      | inr here ↦
-          let j : ℕ = p - 64 * i in
-          let few : j < 64 = omega arith in
-          let at : 64 * i + j ≡ p = omega arith in
-          grind (arith, get_or-window)
-    ]
+words-more old new m part i w before wrote others is_word is_part =
+    bits-more (λ p. get_or m p false) old new i before others (λ j few. ap (λ (xs : List Bool). get_or xs j false) wrote ∙ is_word j few ∙ is_part j few)
 
 -- ---- the first bits
 
