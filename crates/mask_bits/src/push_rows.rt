@@ -5,7 +5,7 @@ ghost use Rattle.mask_bits.specs.Positions.{count, chosen};
 
 use crate::chunks::BitChunks;
 use crate::room::Room;
-use crate::small_rows::{MoveRows, push_small_rows};
+use crate::small_rows::{MoveRows, push_last_small_rows, push_small_rows};
 use crate::unchecked::part;
 use crate::word_rows::{push_rows_of_word, push_rows_one_by_one};
 
@@ -78,5 +78,5 @@ pub fn choose_small_rows<const FEW: usize, M: MoveRows<T>, T: Copy, R: Room<T>>(
     for i in 0..words {
         push_small_rows::<FEW, M, _, _>(out, part(rows, 64 * i, 64), chunks.word(i));
     }
-    push_rows_one_by_one(out, &rows[64 * words..], chunks.remainder_bits());
+    push_last_small_rows::<FEW, M, _, _>(out, &rows[64 * words..], chunks.remainder_bits());
 }

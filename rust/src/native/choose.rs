@@ -1,8 +1,8 @@
 //! Rows at the true values, by the loop for their size: several at once where the processor can.
 
-use super::processor::{Moved, moves_bytes};
 #[cfg(target_arch = "x86_64")]
-use super::processor::{moves_eights, moves_fours};
+use super::processor::{Compressed, compresses, moves_fours};
+use super::processor::{Moved, moves_bytes};
 use crate::proved::mask_bits::push_rows::{choose_rows, choose_small_rows};
 use crate::proved::mask_bits::room::Lent;
 use crate::proved::mask_bits::small_rows::MoveRows;
@@ -27,10 +27,12 @@ const FEW_FOURS: usize = 8;
 #[cfg(target_arch = "x86_64")]
 const FEW_EIGHTS: usize = 10;
 
-// Rows of eight bytes are where three in so many values are true: by an instruction, of more values than these.
+// Rows of eight bytes are where three in so many values are true.
 const THREE_TRUE_IN: usize = 8;
+
+// AVX-512 moves them, and those of four bytes, of more values than these.
 #[cfg(target_arch = "x86_64")]
-const FEW_VALUES: usize = 512;
+const FEW_VALUES: usize = 64;
 
 // The loop over words is compiled for x86-64-v3 too, which it asks for of more values than these (see `choose_rows`).
 const ANY_LEVEL: usize = 128;
@@ -89,6 +91,13 @@ pub(crate) unsafe fn choose_several<T: Copy>(
             true
         }
         #[cfg(target_arch = "x86_64")]
+        4 if rows.len() > FEW_VALUES && compresses() => {
+            // SAFETY: a row is four such bytes. Each place gets a row's, and none is read before.
+            let (rows, out) = unsafe { as_byte_rows(rows, out) };
+            move_several::<FEW_FOURS, [u8; 4], Compressed>(rows, chunks, out);
+            true
+        }
+        #[cfg(target_arch = "x86_64")]
         4 if moves_fours() => {
             // SAFETY: a row is four such bytes. Each place gets a row's, and none is read before.
             let (rows, out) = unsafe { as_byte_rows(rows, out) };
@@ -96,10 +105,10 @@ pub(crate) unsafe fn choose_several<T: Copy>(
             true
         }
         #[cfg(target_arch = "x86_64")]
-        8 if rows.len() > FEW_VALUES && is_dense(rows.len(), out.len()) && moves_eights() => {
+        8 if rows.len() > FEW_VALUES && is_dense(rows.len(), out.len()) && compresses() => {
             // SAFETY: a row is eight such bytes. Each place gets a row's, and none is read before.
             let (rows, out) = unsafe { as_byte_rows(rows, out) };
-            move_several::<FEW_EIGHTS, [u8; 8], Moved>(rows, chunks, out);
+            move_several::<FEW_EIGHTS, [u8; 8], Compressed>(rows, chunks, out);
             true
         }
         _ => false,

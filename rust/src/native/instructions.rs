@@ -1,11 +1,11 @@
 //! What the instructions give, by the manual of the processor. Nothing here runs unless `has_quick_bits` answers yes; for
-//! `fours_at`, `moves_fours`, and for `eights_at`, `moves_eights`.
+//! `fours_at`, `moves_fours`, and for `sixteen_fours_at` and `eights_at`, `compresses`.
 #![allow(clippy::inline_always, reason = "each is a few instructions of its caller")]
 
 use core::arch::x86_64::{
     _mm_cvtsi64_si128, _mm256_cvtepu8_epi32, _mm256_loadu_si256, _mm256_permutevar8x32_epi32,
-    _mm256_storeu_si256, _mm512_loadu_si512, _mm512_maskz_compress_epi64, _mm512_storeu_si512,
-    _pdep_u64, _pext_u64,
+    _mm256_storeu_si256, _mm512_loadu_si512, _mm512_maskz_compress_epi32,
+    _mm512_maskz_compress_epi64, _mm512_storeu_si512, _pdep_u64, _pext_u64,
 };
 use core::mem::MaybeUninit;
 
@@ -51,13 +51,28 @@ pub(super) fn fours_at<T: Copy>(rows: &[T], places: [u8; 8]) -> [T; 8] {
     }
 }
 
+/// The rows of four bytes at the set ones of sixteen bits, and zeros behind them, by VPCOMPRESSD.
+#[inline(always)]
+pub(super) fn sixteen_fours_at<T: Copy>(rows: &[T], bits: u16) -> [T; 16] {
+    const { assert!(size_of::<T>() == 4) };
+    let rows: &[T; 16] = rows.first_chunk().expect("sixteen rows");
+    let mut moved = MaybeUninit::<[T; 16]>::uninit();
+    // SAFETY: the processor has the instructions, as `compresses` found, and sixteen rows are as many bytes as a
+    // register has. Each of those moved is one of them, or of zeros.
+    unsafe {
+        let rows = _mm512_maskz_compress_epi32(bits, _mm512_loadu_si512(rows.as_ptr().cast()));
+        _mm512_storeu_si512(moved.as_mut_ptr().cast(), rows);
+        moved.assume_init()
+    }
+}
+
 /// The rows of eight bytes at the set bits of a byte, and zeros behind them, by VPCOMPRESSQ.
 #[inline(always)]
 pub(super) fn eights_at<T: Copy>(rows: &[T], byte: u8) -> [T; 8] {
     const { assert!(size_of::<T>() == 8) };
     let rows: &[T; 8] = rows.first_chunk().expect("eight rows");
     let mut moved = MaybeUninit::<[T; 8]>::uninit();
-    // SAFETY: the processor has the instructions, as `moves_eights` found, and eight rows are as many bytes as a
+    // SAFETY: the processor has the instructions, as `compresses` found, and eight rows are as many bytes as a
     // register has. Each of those moved is one of them, or of zeros.
     unsafe {
         let rows = _mm512_maskz_compress_epi64(byte, _mm512_loadu_si512(rows.as_ptr().cast()));

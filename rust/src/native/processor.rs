@@ -26,48 +26,76 @@ pub(crate) fn moves_fours() -> bool {
     cfg!(target_feature = "avx2") || has_v3()
 }
 
-/// Whether several rows of eight bytes are: by an instruction of AVX-512.
+/// Whether several rows of four or eight bytes are by an instruction of AVX-512.
 #[cfg(target_arch = "x86_64")]
 #[inline(always)]
-pub(crate) fn moves_eights() -> bool {
+pub(crate) fn compresses() -> bool {
     cfg!(target_feature = "avx512f") || has_v4()
 }
 
-/// What moves them, where the answer is yes.
+/// What moves them, where the answer is yes: rows of one byte, and of four.
 pub struct Moved;
+
+/// What moves them by AVX-512.
+#[cfg(target_arch = "x86_64")]
+pub(crate) struct Compressed;
 
 impl MoveRows<u8> for Moved {
     #[inline(always)]
-    fn push_byte<R: Room<u8>>(out: &mut R, rows: &[u8], byte: u8) {
+    fn push_sixteen<R: Room<u8>>(out: &mut R, rows: &[u8], bits: u16) {
         #[cfg(target_arch = "x86_64")]
         if !MOVES_BY_TABLE {
-            return push_first(out, instructions::bytes_at(rows, byte), byte);
+            return push_halves(out, rows, bits, instructions::bytes_at);
         }
-        ByTable::push_byte(out, rows, byte);
+        ByTable::push_sixteen(out, rows, bits);
     }
 }
 
 #[cfg(target_arch = "x86_64")]
 impl MoveRows<[u8; 4]> for Moved {
     #[inline(always)]
-    fn push_byte<R: Room<[u8; 4]>>(out: &mut R, rows: &[[u8; 4]], byte: u8) {
-        push_first(out, instructions::fours_at(rows, places_of(byte).to_array()), byte);
+    fn push_sixteen<R: Room<[u8; 4]>>(out: &mut R, rows: &[[u8; 4]], bits: u16) {
+        push_halves(out, rows, bits, |rows, byte| {
+            instructions::fours_at(rows, places_of(byte).to_array())
+        });
     }
 }
 
 #[cfg(target_arch = "x86_64")]
-impl MoveRows<[u8; 8]> for Moved {
+impl MoveRows<[u8; 4]> for Compressed {
     #[inline(always)]
-    fn push_byte<R: Room<[u8; 8]>>(out: &mut R, rows: &[[u8; 8]], byte: u8) {
-        push_first(out, instructions::eights_at(rows, byte), byte);
+    fn push_sixteen<R: Room<[u8; 4]>>(out: &mut R, rows: &[[u8; 4]], bits: u16) {
+        push_first(out, instructions::sixteen_fours_at(rows, bits), bits.count_ones());
     }
 }
 
-/// Puts as many of eight rows as the byte has bits.
+#[cfg(target_arch = "x86_64")]
+impl MoveRows<[u8; 8]> for Compressed {
+    #[inline(always)]
+    fn push_sixteen<R: Room<[u8; 8]>>(out: &mut R, rows: &[[u8; 8]], bits: u16) {
+        push_halves(out, rows, bits, instructions::eights_at);
+    }
+}
+
+/// Puts the rows of sixteen bits, of which `moved` gives those of a byte, and others behind them.
 #[cfg(target_arch = "x86_64")]
 #[inline(always)]
-fn push_first<T: Copy, R: Room<T>>(out: &mut R, rows: [T; 8], byte: u8) {
-    let end = out.count() + byte.count_ones() as usize;
+fn push_halves<T: Copy, R: Room<T>>(
+    out: &mut R,
+    rows: &[T],
+    bits: u16,
+    moved: impl Fn(&[T], u8) -> [T; 8],
+) {
+    let [low, high] = bits.to_le_bytes();
+    push_first(out, moved(&rows[..8], low), low.count_ones());
+    push_first(out, moved(&rows[8..], high), high.count_ones());
+}
+
+/// Puts the first ones of some rows, so many as are counted.
+#[cfg(target_arch = "x86_64")]
+#[inline(always)]
+fn push_first<T: Copy, R: Room<T>, const N: usize>(out: &mut R, rows: [T; N], count: u32) {
+    let end = out.count() + count as usize;
     for row in rows {
         out.put(row);
     }

@@ -18,7 +18,7 @@ unfolding chosen
 chosen_of_none = refl
 
 -- false values behind a list have no place
-places-padded : (m : List Bool) (k : ℕ) → positions (m ++ repeated k false) ≡ positions m
+pub places-padded : (m : List Bool) (k : ℕ) → positions (m ++ repeated k false) ≡ positions m
 places-padded m k = grind (arith, common_steps, indices_from-append, indices_from-repeated_false, append-nil)
 
 pub places_of_rest : (m : List Bool) → positions (padded_remainder m) ≡ positions (drop (64 * (length m / 64)) m)

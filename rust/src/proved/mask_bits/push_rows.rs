@@ -4,7 +4,7 @@
 use crate::kit::prelude::*;
 use crate::proved::mask_bits::chunks::BitChunks;
 use crate::proved::mask_bits::room::Room;
-use crate::proved::mask_bits::small_rows::{MoveRows, push_small_rows};
+use crate::proved::mask_bits::small_rows::{MoveRows, push_last_small_rows, push_small_rows};
 use crate::proved::mask_bits::unchecked::part;
 use crate::proved::mask_bits::word_rows::{push_rows_of_word, push_rows_one_by_one};
 
@@ -105,5 +105,5 @@ fn choose_small_rows_any<const FEW: usize, M: MoveRows<T>, T: Copy, R: Room<T>>(
     for i in 0..words {
         push_small_rows::<FEW, M, _, _>(out, part(rows, 64 * i, 64), chunks.word_proved(i));
     }
-    push_rows_one_by_one(out, &rows[64 * words..], chunks.remainder_bits());
+    push_last_small_rows::<FEW, M, _, _>(out, &rows[64 * words..], chunks.remainder_bits());
 }

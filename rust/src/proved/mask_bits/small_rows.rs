@@ -7,16 +7,16 @@ mod one_byte;
 use crate::proved::mask_bits::room::Room;
 use crate::proved::mask_bits::word_rows::{push_rows_of_word, push_rows_one_by_one};
 
-/// How the rows at the set bits of a byte come to stand one behind another.
+/// How the rows at the set ones of sixteen bits come to stand one behind another.
 pub trait MoveRows<T: Copy> {
-    /// Puts these rows into room for eight.
-    fn push_byte<R: Room<T>>(out: &mut R, rows: &[T], byte: u8);
+    /// Puts these rows into room for sixteen.
+    fn push_sixteen<R: Room<T>>(out: &mut R, rows: &[T], bits: u16);
 }
 
 /// By a table, which has the places of a byte's set bits.
 pub struct ByTable;
 
-/// Puts the rows at the set bits of a word into room for these: those of a byte at once where there is room to
+/// Puts the rows at the set bits of a word into room for these: those of sixteen bits at once where there is room to
 /// spare; one after another where fewer than `FEW` bits are set, since that takes less time then.
 #[inline(always)]
 pub fn push_small_rows<const FEW: usize, M: MoveRows<T>, T: Copy, R: Room<T>>(
@@ -29,18 +29,51 @@ pub fn push_small_rows<const FEW: usize, M: MoveRows<T>, T: Copy, R: Room<T>>(
         push_rows_of_word::<0, _, _>(out, rows, word);
         return;
     }
-    let ones = word.count_ones() as usize;
-    if ones < FEW || out.spare() < ones + 8 {
+    if out.spare() < word.count_ones() as usize + 16 {
+        push_last_small_rows::<FEW, M, _, _>(out, rows, word);
+    } else if (word.count_ones() as usize) < FEW {
         push_rows_one_by_one(out, rows, word);
     } else {
-        push_by_bytes::<M, _, _>(out, rows, word);
+        push_by_sixteen::<M, _, _>(out, rows, word);
     }
 }
 
-// Puts those of each byte of the word.
+/// The same of the last rows, with no room to spare: those of sixteen bits at once as long as there is room for sixteen.
 #[inline(always)]
-fn push_by_bytes<M: MoveRows<T>, T: Copy, R: Room<T>>(out: &mut R, rows: &[T], word: u64) {
-    for j in 0..8 {
-        M::push_byte(out, &rows[8 * j..8 * j + 8], ((word >> (8 * j)) & 0xFF) as u8);
+pub fn push_last_small_rows<const FEW: usize, M: MoveRows<T>, T: Copy, R: Room<T>>(
+    out: &mut R,
+    rows: &[T],
+    word: u64,
+) {
+    if (word.count_ones() as usize) < FEW {
+        push_rows_one_by_one(out, rows, word);
+        return;
+    }
+    let mut left = word;
+    let parts = rows.len() / 16;
+    for j in 0..parts {
+        push_sixteen_or_fewer::<M, _, _>(out, &rows[16 * j..16 * j + 16], (left & 0xFFFF) as u16);
+        left >>= 16;
+    }
+    push_rows_one_by_one(out, &rows[16 * parts..], left);
+}
+
+// Puts those of sixteen bits, at once where there is room for sixteen.
+#[inline(always)]
+fn push_sixteen_or_fewer<M: MoveRows<T>, T: Copy, R: Room<T>>(out: &mut R, rows: &[T], bits: u16) {
+    if out.spare() < 16 {
+        push_rows_one_by_one(out, rows, bits as u64);
+    } else {
+        M::push_sixteen(out, rows, bits);
+    }
+}
+
+// Puts those of the whole word, sixteen bits at a time.
+#[inline(always)]
+fn push_by_sixteen<M: MoveRows<T>, T: Copy, R: Room<T>>(out: &mut R, rows: &[T], word: u64) {
+    let mut left = word;
+    for j in 0..4 {
+        M::push_sixteen(out, &rows[16 * j..16 * j + 16], (left & 0xFFFF) as u16);
+        left >>= 16;
     }
 }

@@ -23,12 +23,12 @@ loop-i-preserved g c =
       kept = c.push_small_rows.ensures.kept ∙ c.loop-i.invariant.kept;
     }
 
-pub push_rows_one_by_one-requires-clause-within : goal.push_rows_one_by_one-requires-clause-within
-push_rows_one_by_one-requires-clause-within g c =
+pub push_last_small_rows-requires-clause-within : goal.push_last_small_rows-requires-clause-within
+push_last_small_rows-requires-clause-within g c =
     rest_within c.args.rows.now _ c.args.chunks.now _ c.remainder_bits.result c.requires.fitting (ap (λ n. 64 * n) c.len-words.ensures) (take_rest c.args.rows.now _) c.remainder_bits.ensures
 
-pub push_rows_one_by_one-requires-clause-room : goal.push_rows_one_by_one-requires-clause-room
-push_rows_one_by_one-requires-clause-room g c =
+pub push_last_small_rows-requires-clause-room : goal.push_last_small_rows-requires-clause-room
+push_last_small_rows-requires-clause-room g c =
     let m = c.args.chunks.now in
     let rows = c.args.rows.now in
     let n : ℕ = 64 * c.len-words.result in
@@ -45,4 +45,4 @@ returns-clause-rows g c =
     let whole : n ≡ 64 * (length m / 64) = ap (λ k. 64 * k) c.len-words.ensures in
     let all : c.loop-i.i ≡ c.len-words.result = omega (arith, c.loop-i.auto.i-end, c.loop-i-test.false) in
     let before = c.loop-i.invariant.items ∙ ap (λ k. chosen (take (64 * k) rows) (take (64 * k) m)) all in
-    rest_pushed rows _ (g.R.Room.items c.loop-i.out) (g.R.Room.items c.push_rows_one_by_one.new.out) m n c.remainder_bits.result c.requires.fitting whole (take_rest rows n) c.remainder_bits.ensures before c.push_rows_one_by_one.ensures.rows
+    rest_pushed rows _ (g.R.Room.items c.loop-i.out) (g.R.Room.items c.push_last_small_rows.new.out) m n c.remainder_bits.result c.requires.fitting whole (take_rest rows n) c.remainder_bits.ensures before c.push_last_small_rows.ensures.rows

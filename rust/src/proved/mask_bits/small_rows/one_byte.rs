@@ -11,11 +11,18 @@ use crate::proved::mask_bits::word_items::push_eight;
 
 impl MoveRows<u8> for ByTable {
     #[inline(always)]
-    fn push_byte<R: Room<u8>>(out: &mut R, rows: &[u8], byte: u8) {
-        let before = out.count();
-        push_eight(out, &rows_of_byte(rows, byte));
-        out.truncate(before + byte.count_ones() as usize);
+    fn push_sixteen<R: Room<u8>>(out: &mut R, rows: &[u8], bits: u16) {
+        push_byte(out, &rows[..8], (bits & 0xFF) as u8);
+        push_byte(out, &rows[8..16], (bits >> 8) as u8);
     }
+}
+
+// Puts the rows at the set bits of a byte into room for eight.
+#[inline(always)]
+fn push_byte<R: Room<u8>>(out: &mut R, rows: &[u8], byte: u8) {
+    let before = out.count();
+    push_eight(out, &rows_of_byte(rows, byte));
+    out.truncate(before + byte.count_ones() as usize);
 }
 
 // The rows at the set bits of a byte, and others behind them.

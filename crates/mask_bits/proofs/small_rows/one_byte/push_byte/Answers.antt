@@ -1,7 +1,7 @@
 use Rattle.mask_bits.proofs.Common.{◌+◌, count_ones, length, ap, arith, length-append, ones-le, take-append-add}
 use Rattle.std.proofs.lemmas.List.{length-take}
 use Rattle.mask_bits.proofs.ByteLemmas.{count-byte}
-use Rattle.mask_bits.proofs.small_rows.one_byte.ByTableMoveRowsU8.push_byte.Goals as goal
+use Rattle.mask_bits.proofs.small_rows.one_byte.push_byte.Goals as goal
 
 pub truncate-requires : goal.truncate-requires
 truncate-requires g c =
