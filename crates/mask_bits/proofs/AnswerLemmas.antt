@@ -1,7 +1,7 @@
 -- What a test answers of rows, row by row and lane by lane.
-use Rattle.mask_bits.proofs.Common.{◌≡◌, ℕ, drop, ◌+◌, ◌-◌, ◌<◌, ◌≤◌, ◌*◌, ◌^◌, Bool, false, List, [], ◌∷◌, ◌++◌, length, get_or, map, nat_eq, replicate, set, take, zip, refl, sym, subst, ap, ap₂, ◌∙◌, inl, inr, arith, Bor, All, FnReturnsAt, Shared, bit_at, cases_lt, nat_tests, get_or-take, get_or_past, length-append, take-append-le, take-take, take-append-drop, drop-take, get_or-append_seam, bit_at-lt, bit_at_above, All-nil, All-cons, All-head, All-tail, bitmap, backing_bit, AreLanesOf, ArePacked, AreAnswers, AreAsComputed, window, word_bits, ext_get_or, length-take, length-drop, length-take-le, bool_byte}
+use Rattle.mask_bits.proofs.Common.{◌≡◌, ℕ, drop, ◌+◌, ◌-◌, ◌<◌, ◌≤◌, ◌^◌, Bool, false, List, [], ◌∷◌, ◌++◌, length, get_or, map, nat_eq, replicate, set, take, zip, refl, sym, subst, ap, ap₂, ◌∙◌, inl, inr, arith, Bor, All, FnReturnsAt, Shared, bit_at, cases_lt, nat_tests, get_or-take, get_or_past, length-append, take-append-le, take-take, take-append-drop, drop-take, get_or-append_seam, bit_at-lt, bit_at_above, All-nil, All-cons, All-head, All-tail, bitmap, backing_bit, AreLanesOf, ArePacked, AreAnswers, AreAsComputed, window, word_bits, ext_get_or, length-take, length-drop, length-take-le, bool_byte}
 use Rattle.mask_bits.proofs.BoolsLemmas.{lanes-none, lanes-more}
-use Rattle.mask_bits.proofs.ChosenBitLemmas.{joined, joined-clear, joined-list}
+use Rattle.mask_bits.proofs.ChosenBitLemmas.{joined, joined-list}
 use Rattle.mask_bits.proofs.Lists.Words.BackingBitLemmas.{bitmap-append, no_values}
 use Rattle.mask_bits.proofs.Lists.Words.FrontLemmas.{front-same, window-take}
 use Rattle.mask_bits.proofs.Lists.Words.WordLemmas.{get_or-word_bits, length-word_bits}
@@ -77,28 +77,22 @@ answers_of_word lane_count gives rows lanes w few within is_word packed =
     (λ k h. sym (get_or-take n (word_bits w) k false (omega (arith, packed.answers.len)) ∙ is_word k (omega (arith, packed.answers.len)) ∙ packed.packed.each k (omega (arith, packed.answers.len)) ∙ get_or-take n list k false (omega (arith, packed.answers.len)))) in
     subst (λ (xs : List Bool). AreAnswers gives rows xs) same packed.answers
 
--- past sixteen lanes the word that they become has no bits
-pub clear_past_lanes : (lanes : List ℕ) (w : ℕ) → length lanes ≡ 16 → w < 2 ^ 64 → ((j : ℕ) → j < 64 → get_or (word_bits w) j false ≡ nat_eq (get_or lanes j 0) 1)
-    → (j : ℕ) → 16 ≤ j → bit_at w j ≡ 0
-clear_past_lanes lanes w len fits is_word j past = elim (cases_lt j 64) [
+-- past n lanes the word that they become has no bits
+pub clear_past_lanes : (n : ℕ) (lanes : List ℕ) (w : ℕ) → length lanes ≡ n → w < 2 ^ 64 → ((j : ℕ) → j < 64 → get_or (word_bits w) j false ≡ nat_eq (get_or lanes j 0) 1)
+    → (j : ℕ) → n ≤ j → bit_at w j ≡ 0
+clear_past_lanes n lanes w len fits is_word j past = elim (cases_lt j 64) [
   | inl few ↦ grind (arith, bit_at-lt, get_or_past, get_or-word_bits, is_word j few, nat_tests)
   | inr above ↦ bit_at_above w 64 j fits above
 ]
 
 -- ---- in words that are joined
 
--- sixteen answers behind those that a word has
-pub answers-sixteen : {T : Type 0} (gives : T → Bool → Type 0) (rows : List T) (begun word k : ℕ) → k < 4 → ((i : ℕ) → 16 * k ≤ i → bit_at begun i ≡ 0)
-    → AreAnswers gives (take (16 * k) rows) (take (16 * k) (word_bits begun)) → AreAnswers gives (take 16 (drop (16 * k) rows)) (take 16 (word_bits word))
-    → AreAnswers gives (take (16 * (k + 1)) rows) (take (16 * (k + 1)) (word_bits (joined begun (16 * k) word)))
-answers-sixteen gives rows begun word k few clear front back =
-    let n : ℕ = 16 * k in
-    let next : 16 * (k + 1) ≡ n + 16 = omega arith in
-    grind (arith, joined-list begun n word 16 (omega arith) (omega arith) clear, take_part n 16 rows, answers-append gives (take n rows) (take 16 (drop n rows)) (take n (word_bits begun)) (take 16 (word_bits word)) front back)
-
--- and no bits past them
-pub sixteen-clear : (begun word k j : ℕ) → k < 4 → ((i : ℕ) → 16 * k ≤ i → bit_at begun i ≡ 0) → ((i : ℕ) → 16 ≤ i → bit_at word i ≡ 0) → 16 * (k + 1) ≤ j → bit_at (joined begun (16 * k) word) j ≡ 0
-sixteen-clear begun word k j few clear past from = joined-clear begun (16 * k) word 16 j clear past (omega arith)
+-- n answers behind those that a word has
+pub answers-joined : {T : Type 0} (gives : T → Bool → Type 0) (rows : List T) (begun word low n : ℕ) → low < 64 → low + n ≤ 64 → ((i : ℕ) → low ≤ i → bit_at begun i ≡ 0)
+    → AreAnswers gives (take low rows) (take low (word_bits begun)) → AreAnswers gives (take n (drop low rows)) (take n (word_bits word))
+    → AreAnswers gives (take (low + n) rows) (take (low + n) (word_bits (joined begun low word)))
+answers-joined gives rows begun word low n few within clear front back =
+    grind (arith, joined-list begun low word n few within clear, take_part low n rows, answers-append gives (take low rows) (take n (drop low rows)) (take low (word_bits begun)) (take n (word_bits word)) front back)
 
 -- ---- in words that are written
 

@@ -51,7 +51,18 @@ pub(crate) fn word_of_lanes(lanes: &[u8; 64]) -> u64
         .to_bitmask()
 }
 
-// The same of sixteen lanes, with zeros past them.
+// The same of 32 lanes, with zeros past them.
+#[inline(always)]
+pub(crate) fn word_of_half_lanes(lanes: &[u8; 32]) -> u64
+    ensures { (j : ℕ) → j < 64
+        → slice_index_or (word_bits result) j false ≡ nat_eq (slice_index_or lanes.now j 0) 1 }
+{
+    u8x32::from_slice(lanes)
+        .simd_eq(u8x32::splat(1))
+        .to_bitmask()
+}
+
+// The same of sixteen.
 #[inline(always)]
 pub(crate) fn word_of_sixteen_lanes(lanes: &[u8; 16]) -> u64
     ensures { (j : ℕ) → j < 64

@@ -9,15 +9,16 @@ ghost use Rattle.mask_bits.specs.Lanes.{ArePacked};
 ghost use Rattle.mask_bits.specs.Rows.{AreAnswers, AreAsComputed};
 ghost use Rattle.mask_bits.specs.Words.{word_bits, started_words};
 
-use crate::bools::{word_of_lanes, word_of_sixteen_lanes};
+use crate::bools::{word_of_half_lanes, word_of_lanes, word_of_sixteen_lanes};
 use crate::buffer::BitBuffer;
 use crate::byte_list::unwritten;
 use crate::words::{set_word, started_words};
 use std::alloc::{AllocError, Global};
 use std::mem::size_of_val;
 
-// The bytes of 64 rows of 8 bytes. The answers of so wide rows and of wider ones become bits sixteen at a time: as
-// lanes of all 64 they stay in memory.
+// The bytes of 64 rows of 8 bytes. The answers of so wide rows and of wider ones become bits sixteen at a time, and those
+// of others 32 at a time: of more of them the compiler takes a test of two comparisons lane by lane, or leaves the lanes
+// in memory.
 const WIDE: usize = 64 * 8;
 
 impl BitBuffer {
@@ -66,8 +67,48 @@ pub(crate) fn word_of_whole<T, F: Fn(&T) -> bool>(rows: &[T], test: &F) -> u64
         (take (length rows.now) (word_bits result)) }
 {
     if size_of_val(rows) < WIDE {
-        return word_of_rows(rows, test);
+        word_of_halves(rows, test)
+    } else {
+        word_of_sixteens(rows, test)
     }
+}
+
+// The same, 32 rows at a time.
+#[inline(always)]
+fn word_of_halves<T, F: Fn(&T) -> bool>(rows: &[T], test: &F) -> u64
+    requires whole { length rows.now ≡ 64 }
+    requires callable { F.IsAlwaysCallable test.now }
+    ensures { AreAnswers (FnReturnsAt F.Fn test.now) rows.now
+        (take (length rows.now) (word_bits result)) }
+{
+    let mut word = 0;
+    for k in 0..2 {
+        word |= bits_of_half(&rows[32 * k..32 * k + 32], test) << (32 * k);
+    }
+    word
+}
+
+// What a test answers of 32 rows, the first lowest, with zeros past them.
+#[inline(always)]
+fn bits_of_half<T, F: Fn(&T) -> bool>(rows: &[T], test: &F) -> u64
+    requires whole { length rows.now ≡ 32 }
+    requires callable { F.IsAlwaysCallable test.now }
+    ensures answers { AreAnswers (FnReturnsAt F.Fn test.now) rows.now (take 32 (word_bits result)) }
+    ensures clear { (j : ℕ) → 32 ≤ j → bit_at result j ≡ 0 }
+{
+    let mut half = [0u8; 32];
+    put_lanes(&mut half, 0, rows, test);
+    word_of_half_lanes(&half)
+}
+
+// The same, sixteen rows at a time.
+#[inline(always)]
+fn word_of_sixteens<T, F: Fn(&T) -> bool>(rows: &[T], test: &F) -> u64
+    requires whole { length rows.now ≡ 64 }
+    requires callable { F.IsAlwaysCallable test.now }
+    ensures { AreAnswers (FnReturnsAt F.Fn test.now) rows.now
+        (take (length rows.now) (word_bits result)) }
+{
     let mut word = 0;
     for k in 0..4 {
         word |= bits_of_sixteen(&rows[16 * k..16 * k + 16], test) << (16 * k);

@@ -156,7 +156,7 @@ use neon as taken;
 #[cfg(all(target_feature = "sse2", target_pointer_width = "64", not(row_mask_arrays)))]
 use sse as taken;
 #[allow(unused_imports, reason = "tests take all of them")]
-pub use taken::{u8x8, u8x16, u8x64, u16x8, u16x16, u32x4, u32x8, u64x2, usizex8};
+pub use taken::{u8x8, u8x16, u8x32, u8x64, u16x8, u16x16, u32x4, u32x8, u64x2, usizex8};
 
 /// What `splat` makes of a number, by the type that its place asks for: lanes, or a count.
 pub trait Splat<L, S> {

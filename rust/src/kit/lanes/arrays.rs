@@ -26,6 +26,7 @@ macro_rules! arrays {
 arrays! {
     u8x8: [u8; 8];
     u8x16: [u8; 16];
+    u8x32: [u8; 32];
     u8x64: [u8; 64];
     u16x8: [u16; 8];
     u16x16: [u16; 16];
@@ -47,6 +48,7 @@ methods! {
     u8x16: swizzle_dyn -> u8x16, |lanes, indices| swizzle(lanes, indices.map(usize::from));
     u32x8: swizzle_dyn -> u32x8, |lanes, indices| swizzle(lanes, indices.map(|i| i as usize));
     u8x16: simd_eq -> LaneMask, |a, b| equal(a, b);
+    u8x32: simd_eq -> LaneMask, |a, b| equal(a, b);
     u8x64: simd_eq -> LaneMask, |a, b| equal(a, b);
     u8x16: count_ones -> u8x16, |lanes| lanes.map(|lane| lane.count_ones().to_le_bytes()[0]);
 }

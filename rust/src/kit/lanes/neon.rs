@@ -79,6 +79,7 @@ macro_rules! bytes {
 registers! {
     u8x8: [u8; 8] in [uint8x8_t; 1], vdup_n_u8 vand_u8 vorr_u8 veor_u8;
     u8x16: [u8; 16] in [uint8x16_t; 1], vdupq_n_u8 vandq_u8 vorrq_u8 veorq_u8;
+    u8x32: [u8; 32] in [uint8x16_t; 2], vdupq_n_u8 vandq_u8 vorrq_u8 veorq_u8;
     u8x64: [u8; 64] in [uint8x16_t; 4], vdupq_n_u8 vandq_u8 vorrq_u8 veorq_u8;
     u16x8: [u16; 8] in [uint16x8_t; 1], vdupq_n_u16 vandq_u16 vorrq_u16 veorq_u16;
     u16x16: [u16; 16] in [uint16x8_t; 2], vdupq_n_u16 vandq_u16 vorrq_u16 veorq_u16;
@@ -132,6 +133,12 @@ methods! {
         let eights = call!(vpaddq_u8(bytes, bytes));
         let pairs = call!(vpaddq_u8(eights, eights));
         u64::from(call!(vgetq_lane_u16::<0>(call!(vreinterpretq_u16_u8(call!(vpaddq_u8(pairs, pairs)))))))
+    };
+    u8x32: simd_eq -> LaneMask, |a, b| {
+        let [first, second] = equal(a, b);
+        let eights = call!(vpaddq_u8(first, second));
+        let pairs = call!(vpaddq_u8(eights, eights));
+        u64::from(call!(vgetq_lane_u32::<0>(call!(vreinterpretq_u32_u8(call!(vpaddq_u8(pairs, pairs)))))))
     };
     u8x64: simd_eq -> LaneMask, |a, b| {
         let [first, second, third, fourth] = equal(a, b);

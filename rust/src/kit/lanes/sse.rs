@@ -75,6 +75,7 @@ macro_rules! bytes {
 registers! {
     __m128i _mm_and_si128 _mm_or_si128 _mm_xor_si128:
     u8x16: [u8; 16] in 1 _mm_set1_epi8;
+    u8x32: [u8; 32] in 2 _mm_set1_epi8;
     u8x64: [u8; 64] in 4 _mm_set1_epi8;
     u16x8: [u16; 8] in 1 _mm_set1_epi16;
     u16x16: [u16; 16] in 2 _mm_set1_epi16;
@@ -133,6 +134,7 @@ operators! {
 
 methods! {
     u8x16: simd_eq -> LaneMask, |a, b| equal(a, b);
+    u8x32: simd_eq -> LaneMask, |a, b| equal(a, b);
     u8x64: simd_eq -> LaneMask, |a, b| equal(a, b);
     u8x16: count_ones -> u8x16, |bytes| {
         Self::from_array(arrays::u8x16::from_array(Self(bytes).to_array()).count_ones().0).0

@@ -137,6 +137,7 @@ operators! {
     operators of lanes:
     u8x8 [u8; 8]: xor not xor_assign;
     u8x16 [u8; 16]: add sub and or xor not xor_assign shl shr;
+    u8x32 [u8; 32]: and or xor not xor_assign;
     u8x64 [u8; 64]: and or xor not xor_assign;
     u16x8 [u16; 8]: add sub mul and or xor not xor_assign shl shr;
     u16x16 [u16; 16]: add sub mul and or xor not xor_assign shl shr;
@@ -150,6 +151,7 @@ operators! {
     operators_of_arrays_alone of arrays:
     u8x8 [u8; 8]: add sub mul and or shl shr;
     u8x16 [u8; 16]: mul;
+    u8x32 [u8; 32]: add sub mul shl shr;
     u8x64 [u8; 64]: add sub mul shl shr;
     u32x8 [u32; 8]: sub mul shl shr;
     u64x2 [u64; 2]: mul;
@@ -198,6 +200,14 @@ calls! {
     half_equal_16_bytes: u8x16 [u8; 16],
     |a, b| a.simd_eq(a ^ (b & form::u8x16::splat(1))).to_bitmask(),
     |_, b| equal(b.map(|lane| lane % 2), [0; 16]);
+
+    equal_32_bytes: u8x32 [u8; 32],
+    |a, b| a.simd_eq(b).to_bitmask(),
+    |a, b| equal(a, b);
+
+    half_equal_32_bytes: u8x32 [u8; 32],
+    |a, b| a.simd_eq(a ^ (b & form::u8x32::splat(4))).to_bitmask(),
+    |_, b| equal(b.map(|lane| lane / 4 % 2), [0; 32]);
 
     equal_64_bytes: u8x64 [u8; 64],
     |a, b| a.simd_eq(b).to_bitmask(),
@@ -313,6 +323,7 @@ macro_rules! types {
 types! {
     u8x8 [u8; 8];
     u8x16 [u8; 16];
+    u8x32 [u8; 32];
     u8x64 [u8; 64];
     u16x8 [u16; 8];
     u16x16 [u16; 16];

@@ -47,7 +47,13 @@ pub(crate) fn word_of_lanes(lanes: &[u8; 64]) -> u64 {
     u8x64::from_slice(lanes).simd_eq(u8x64::splat(1)).to_bitmask()
 }
 
-// The same of sixteen lanes, with zeros past them.
+// The same of 32 lanes, with zeros past them.
+#[inline(always)]
+pub(crate) fn word_of_half_lanes(lanes: &[u8; 32]) -> u64 {
+    u8x32::from_slice(lanes).simd_eq(u8x32::splat(1)).to_bitmask()
+}
+
+// The same of sixteen.
 #[inline(always)]
 pub(crate) fn word_of_sixteen_lanes(lanes: &[u8; 16]) -> u64 {
     u8x16::from_slice(lanes).simd_eq(u8x16::splat(1)).to_bitmask()

@@ -3,14 +3,15 @@
 
 use crate::kit::AllocError;
 use crate::kit::prelude::*;
-use crate::proved::mask_bits::bools::{word_of_lanes, word_of_sixteen_lanes};
+use crate::proved::mask_bits::bools::{word_of_half_lanes, word_of_lanes, word_of_sixteen_lanes};
 use crate::proved::mask_bits::buffer::BitBuffer;
 use crate::proved::mask_bits::byte_list::unwritten;
 use crate::proved::mask_bits::words::{set_word, started_words};
 use ::core::mem::size_of_val;
 
-// The bytes of 64 rows of 8 bytes. The answers of so wide rows and of wider ones become bits sixteen at a time: as
-// lanes of all 64 they stay in memory.
+// The bytes of 64 rows of 8 bytes. The answers of so wide rows and of wider ones become bits sixteen at a time, and those
+// of others 32 at a time: of more of them the compiler takes a test of two comparisons lane by lane, or leaves the lanes
+// in memory.
 const WIDE: usize = 64 * 8;
 
 impl BitBuffer {
@@ -83,9 +84,30 @@ fn put_answers<T, F: FnMut(&T) -> bool>(bytes: &mut [u8], rows: &[T], test: &mut
 // The word of what a test answers of 64 rows, the first lowest.
 #[inline(always)]
 pub(crate) fn word_of_whole<T, F: FnMut(&T) -> bool>(rows: &[T], test: &mut F) -> u64 {
-    if size_of_val(rows) < WIDE {
-        return word_of_rows(rows, test);
+    if size_of_val(rows) < WIDE { word_of_halves(rows, test) } else { word_of_sixteens(rows, test) }
+}
+
+// The same, 32 rows at a time.
+#[inline(always)]
+fn word_of_halves<T, F: FnMut(&T) -> bool>(rows: &[T], test: &mut F) -> u64 {
+    let mut word = 0;
+    for k in 0..2 {
+        word |= bits_of_half(&rows[32 * k..32 * k + 32], test) << (32 * k);
     }
+    word
+}
+
+// What a test answers of 32 rows, the first lowest, with zeros past them.
+#[inline(always)]
+fn bits_of_half<T, F: FnMut(&T) -> bool>(rows: &[T], test: &mut F) -> u64 {
+    let mut half = [0u8; 32];
+    put_lanes(&mut half, 0, rows, test);
+    word_of_half_lanes(&half)
+}
+
+// The same, sixteen rows at a time.
+#[inline(always)]
+fn word_of_sixteens<T, F: FnMut(&T) -> bool>(rows: &[T], test: &mut F) -> u64 {
     let mut word = 0;
     for k in 0..4 {
         word |= bits_of_sixteen(&rows[16 * k..16 * k + 16], test) << (16 * k);

@@ -14,4 +14,4 @@ returns-clause-answers g c =
 pub returns-clause-clear : goal.returns-clause-clear
 returns-clause-clear g c =
     let packed : ArePacked 16 (FnReturnsAt g.F.Fn c.args.test.now) c.args.rows.now c.put_lanes.new.lanes = c.put_lanes.ensures [] refl (packed_no_answers 16 (FnReturnsAt g.F.Fn c.args.test.now)) in
-    clear_past_lanes c.put_lanes.new.lanes c.word_of_sixteen_lanes.result packed.packed.len (omega arith) c.word_of_sixteen_lanes.ensures
+    clear_past_lanes 16 c.put_lanes.new.lanes c.word_of_sixteen_lanes.result packed.packed.len (omega arith) c.word_of_sixteen_lanes.ensures

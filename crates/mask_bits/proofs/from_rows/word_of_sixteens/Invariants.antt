@@ -1,5 +1,5 @@
 use Rattle.mask_bits.proofs.Common.{◌≡◌, ℕ, ◌≤◌, ◌*◌, take, FnReturnsAt, bit_at, AreAnswers, word_bits}
-use Rattle.mask_bits.proofs.from_rows.word_of_whole.Given as goal
+use Rattle.mask_bits.proofs.from_rows.word_of_sixteens.Given as goal
 
 -- the word has the answers so far, and no bits past them
 abbrev pub invariant-loop-k : goal.invariant-loop-k

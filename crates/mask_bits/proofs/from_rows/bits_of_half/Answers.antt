@@ -1,0 +1,17 @@
+use Rattle.mask_bits.proofs.Common.{[], take, refl, subst, arith, FnReturnsAt, ArePacked, AreAnswers, word_bits}
+use Rattle.mask_bits.proofs.AnswerLemmas.{packed_no_answers, answers_of_word, clear_past_lanes}
+use Rattle.mask_bits.proofs.from_rows.bits_of_half.Goals as goal
+
+pub returns-clause-answers : goal.returns-clause-answers
+returns-clause-answers g c =
+    let rows = c.args.rows.now in
+    let gives = FnReturnsAt g.F.Fn c.args.test.now in
+    let w = c.word_of_half_lanes.result in
+    let packed : ArePacked 32 gives rows c.put_lanes.new.lanes = c.put_lanes.ensures [] refl (packed_no_answers 32 gives) in
+    subst (λ n. AreAnswers gives rows (take n (word_bits w))) c.requires.whole
+    (answers_of_word 32 gives rows c.put_lanes.new.lanes w (omega arith) (omega arith) c.word_of_half_lanes.ensures packed)
+
+pub returns-clause-clear : goal.returns-clause-clear
+returns-clause-clear g c =
+    let packed : ArePacked 32 (FnReturnsAt g.F.Fn c.args.test.now) c.args.rows.now c.put_lanes.new.lanes = c.put_lanes.ensures [] refl (packed_no_answers 32 (FnReturnsAt g.F.Fn c.args.test.now)) in
+    clear_past_lanes 32 c.put_lanes.new.lanes c.word_of_half_lanes.result packed.packed.len (omega arith) c.word_of_half_lanes.ensures
