@@ -126,8 +126,8 @@ def changed(crate, text, found, twins, names=()):
         masked.text, count = re.subn(pattern, into, masked.text)
         found[rule][0] += count
     if crate in INSIDE:
-        by_pdep, replaced = marks.instead("struct", "by PDEP"), marks.instead("fn", "replaced by")
-        masked.text = by_instruction(masked.text, by_pdep, replaced, found)
+        types, replaced = marks.instead("struct", "by instruction"), marks.instead("fn", "replaced by")
+        masked.text = by_instruction(masked.text, types, replaced, found)
         masked.text = by_body(masked.text, twins, marks.lawful(), found)
     else:
         masked.text = by_public_name(masked.text, dict(names), found)
@@ -137,7 +137,7 @@ def changed(crate, text, found, twins, names=()):
     return masked.shown()
 
 
-def by_instruction(text, by_pdep, replaced, found):
+def by_instruction(text, types, replaced, found):
     """Has calls inside the package go to what is marked as quicker, or as standing in their place.
 
     >>> made = lambda text: by_instruction(text, {"A": "native::B"}, {"f": "native::g"}, {QUICKEST: [0, 0]})
@@ -146,7 +146,7 @@ def by_instruction(text, by_pdep, replaced, found):
     >>> made("fn f(n: u8) { f(n); a.f }")
     'fn f(n: u8) { native::g(n); a.f }'
     """
-    for name, there in by_pdep.items():
+    for name, there in types.items():
         into = rf"crate::native::quickest!(\g<on>{there}\g<rest>, \g<on>{name}\g<rest>)"
         of_type = rf"\b(?P<on>[\w:]+::<){name}(?P<rest>(?:, _)*>\([^()]*\))"
         for call in (of_type, rf"\b(?P<on>){name}(?P<rest>::[a-z_]\w*\([^()]*\))"):

@@ -7,14 +7,14 @@ from erasing import marks
 from erasing.changes import CORE, ELSEWHERE, GONE, INSIDE, PLACES, PROVED, SAME
 from erasing.conditions import TESTS, Condition
 from erasing.examples import leads_to
-from erasing.levels import by_pext, levelled
+from erasing.levels import copied, levelled
 from erasing.names import KEPT, Names
 from erasing.tokens import Fault, attached, leaves, spaced
 
 GENERIC = r"(?:\s*<(?:[^<>]|<[^<>]*>|->)*>)?"
 # The marks that items of these kinds may have.
 MARKED = {
-    "fn": r"(?!lawful|by PDEP)", "mod": r"visible|replaced by", "impl": r"by hand", "trait": r"lawful", "struct": r"by PDEP",
+    "fn": r"(?!lawful)", "mod": r"visible|replaced by", "impl": r"by hand", "trait": r"lawful", "struct": r"by instruction",
 }
 # What serves the other crates of the repository alone, which are one package here.
 HIDDEN = "#[doc(hidden)]\n"
@@ -427,9 +427,9 @@ impl ::core::error::Error for {name} {{}}
             name = function.name + (PROVED if is_twin else "")
             return f"{before}{inline}{function.signature(name)} {body}", last + 1
         levels, is_levelled = "", self.is_levelled()
-        if marked.has("copied by PEXT"):
+        if marked.has("copied by instruction"):
             self.count("copies by an instruction")
-            levels = by_pext(function, body, is_levelled)
+            levels = copied(function, body, is_levelled)
         if is_levelled:
             self.count("levels of the processor")
             body, more = levelled(function, of, body, marked)

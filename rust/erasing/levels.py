@@ -9,6 +9,8 @@ from erasing.tokens import TOKEN
 FEATURES = "avx2,bmi1,bmi2,f16c,fma,lzcnt,movbe,popcnt"
 # What x86-64-v4 has above that.
 MORE_FEATURES = "avx512f,avx512bw,avx512cd,avx512dq,avx512vl"
+# What 64-bit ARM may have, as far as the instructions for bits at set places go.
+ARM_FEATURES = "sve2-bitperm"
 
 
 def levelled(function, of, body, marked):
@@ -31,7 +33,7 @@ def levelled(function, of, body, marked):
     v4, v3, of_any = (f"{function.name}_{it}" for it in ("v4", "v3", "any"))
     place = "Self" if of else None
     calls = [function.call(it, place, []) for it in (v3, of_any)]
-    by_pext = function.call(f"{function.name}_by_pext", place, []) + ", " if marked.has("copied by PEXT") else ""
+    first = function.call(f"{function.name}_by_instruction", place, []) + ", " if marked.has("copied by instruction") else ""
     body = inner(body)
     copy = f"""#[cfg(target_arch = "x86_64")]
 #[target_feature(enable = "{FEATURES}")]
@@ -50,10 +52,10 @@ def levelled(function, of, body, marked):
 """
     which = marked.level
     if marked.to_v4:
-        which, by_pext = f"{which}_to_v4", function.call(v4, place, []) + ", "
+        which, first = f"{which}_to_v4", function.call(v4, place, []) + ", "
     if marked.much:
-        which, by_pext = f"{which}_if", f"{marked.much}, {by_pext if marked.to_v4 else ''}"
-    return f"{{ crate::native::by_{which}!({by_pext}{calls[0]}, {calls[1]}) }}", more
+        which, first = f"{which}_if", f"{marked.much}, {first if marked.to_v4 else ''}"
+    return f"{{ crate::native::by_{which}!({first}{calls[0]}, {calls[1]}) }}", more
 
 
 def inner(body):
@@ -63,16 +65,17 @@ def inner(body):
     return body
 
 
-def by_pext(function, body, is_levelled):
+def copied(function, body, is_levelled):
     """A copy of a function that takes bits by the instruction."""
-    for name, there in marks.instead("fn", "by PEXT").items():
+    for name, there in marks.instead("fn", "by instruction").items():
         body = re.sub(rf"\b{name}\(", f"{there}(", body)
-    how = f'#[target_feature(enable = "{FEATURES}")]' if is_levelled else "#[inline(always)]"
+    how = f"""#[cfg_attr(target_arch = "x86_64", target_feature(enable = "{FEATURES}"))]
+#[cfg_attr(target_arch = "aarch64", target_feature(enable = "{ARM_FEATURES}"))]""" if is_levelled else "#[inline(always)]"
     return f"""
 
-#[cfg(target_arch = "x86_64")]
+#[cfg(any(target_arch = "x86_64", target_arch = "aarch64"))]
 {how}
-{function.signature(f"{function.name}_by_pext", "")} {body}
+{function.signature(f"{function.name}_by_instruction", "")} {body}
 """
 
 

@@ -9,14 +9,15 @@
 | `.. if CONDITION` | the copy is called only where there is so much to do that it pays to ask |
 | `.. alone` | what it calls isn't inlined always |
 | `// rust: called at its level` | a levelled function goes on to the copy of its own level |
-| `// rust: copied by PEXT` | a copy in which that instruction stands in the place of `extract` |
+| `// rust: copied by instruction` | a copy, for processors with an instruction for the bits at set places, in which what is \
+marked `by instruction` stands in the places of the functions with that mark |
 | `// rust: visible` | private functions, modules and fields that calls by hand go to |
 | `// rust: inline` | inlined always: tests of places make it seem too long for that |
 | `// rust: by hand` | nothing of an implementation or a method: the package has its own |
 | `// rust: lawful` | an `unsafe` trait: no compiler sees whether an implementation answers as the contract says |
 | `// rust: replaced by PATH` | of a module, and of the package's calls of a function: what stands at that path by hand |
-| `// rust: by PEXT PATH` | what stands at that path, in copies by PEXT |
-| `// rust: by PDEP PATH` | the type at that path where that instruction is quick, in the package's calls with this type |
+| `// rust: by instruction PATH` | of a function: what stands at that path, in such copies. Of a type: the type at that path, \
+in the package's calls with this one, where the processor has such an instruction, and it is quick |
 | `// rust: named NAME` | a method that has this name in public, since another has that of the source there: Rust's own, or \
 one by hand that returns no `Result` |
 | `// rust: needs TEXT` | what a call says that it needs where its condition is broken, in place of the condition in Rust |
@@ -35,8 +36,8 @@ LINE = re.compile(r"^[ \t]*// rust:(.*)\n", re.M)
 LEVEL = re.compile(r"(?P<kind>wide |shifted )?level(?P<v4> to v4)?(?: if (?P<much>.+?))?(?P<alone> alone)?")
 TOLD = re.compile(r"(?:(\w+) )?(needs|says) (\S.*)")
 NAMED = re.compile(r"named (\w+)")
-INSTEAD = re.compile(r"(replaced by|by PEXT|by PDEP) ((?:\w+::)*\w+)")
-OTHERS = ["called at its level", "copied by PEXT", "visible", "inline", "by hand", "lawful"]
+INSTEAD = re.compile(r"(replaced by|by instruction) ((?:\w+::)*\w+)")
+OTHERS = ["called at its level", "copied by instruction", "visible", "inline", "by hand", "lawful"]
 HEAD = re.compile(r"^([ \t]*)(?:pub(?:\(\w+\))? )?(?:unsafe )?(?:extern \"C\" )?(fn|mod|struct|trait) (\w+)", re.M)
 
 

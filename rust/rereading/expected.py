@@ -11,8 +11,8 @@ from rereading.rules import CRATES, SAFETY, kit_of
 
 
 # The marks of items that are no functions, by how these begin; no function has any of `ELSEWHERE`.
-MARKED = {"mod": ("visible", "replaced by"), "impl": ("by hand",), "trait": ("lawful",), "struct": ("by PDEP",)}
-ELSEWHERE = ("lawful", "by PDEP")
+MARKED = {"mod": ("visible", "replaced by"), "impl": ("by hand",), "trait": ("lawful",), "struct": ("by instruction",)}
+ELSEWHERE = ("lawful",)
 
 
 class Item:
@@ -159,7 +159,7 @@ class File:
 
     def form_struct(self, item, j, kind, of):
         words, first = self.words.all, self.words.find(j, ["{", ";"])
-        self.package.instead.update({("by PDEP", words[j + 1]): it for it in item.marks.instead.values()})
+        self.package.instead.update({("type by instruction", words[j + 1]): it for it in item.marks.instead.values()})
         if words[first] == ";":
             return [*item.before(), *words[j : first + 1]], first + 1
         last = self.words.partner[first]

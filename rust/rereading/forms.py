@@ -3,14 +3,19 @@ conditions, one that tests them and one that has the body."""
 from rereading.clauses import Test
 from rereading.functions import INTO_ITER
 from rereading.lexer import Unexplained, words_of
-from rereading.rules import FEATURES, KEPT, MORE_FEATURES, NATIVE
+from rereading.rules import ARM_FEATURES, FEATURES, KEPT, MORE_FEATURES, NATIVE
 
 ALWAYS, INLINE, TRACKED, HIDDEN = (
     words_of(f"#[{it}]") for it in ("inline(always)", "inline", "track_caller", "doc(hidden)")
 )
 ON_X86 = words_of('#[cfg(target_arch = "x86_64")]')
+ON_BOTH = words_of('#[cfg(any(target_arch = "x86_64", target_arch = "aarch64"))]')
 BY_FEATURES = words_of(f"#[target_feature(enable = {FEATURES})]")
 BY_MORE_FEATURES = words_of(f"#[target_feature(enable = {MORE_FEATURES})]")
+BY_FEATURES_OF_EACH = words_of(
+    f'#[cfg_attr(target_arch = "x86_64", target_feature(enable = {FEATURES}))]'
+    f'#[cfg_attr(target_arch = "aarch64", target_feature(enable = {ARM_FEATURES}))]'
+)
 OURS = words_of("pub(crate)")
 
 
@@ -73,10 +78,10 @@ class Form:
         if marks.level:
             made += self.levels(of_any)
         self.package.instead.update({(how, self.name): it for how, it in marks.instead.items()})
-        if marks.has("copied by PEXT"):
-            how = BY_FEATURES if marks.level else ALWAYS
-            by_pext = renamed(body, {name: it for (how, name), it in self.package.instead.items() if how == "by PEXT"})
-            made += [*ON_X86, *how, *self.function.signature(f"{self.name}_by_pext"), *by_pext]
+        if marks.has("copied by instruction"):
+            how = BY_FEATURES_OF_EACH if marks.level else ALWAYS
+            copy = renamed(body, {name: it for (how, name), it in self.package.instead.items() if how == "by instruction"})
+            made += [*ON_BOTH, *how, *self.function.signature(f"{self.name}_by_instruction"), *copy]
         return made
 
     def path_of_any(self):
@@ -88,14 +93,14 @@ class Form:
         marks, place = self.marks, "Self" if self.of else None
         if not marks.alone:
             self.package.roots.add(f"{self.name}_any")
-        calls = {it: self.function.call(f"{self.name}_{it}", place) for it in ("v3", "v4", "any", "by_pext")}
+        calls = {it: self.function.call(f"{self.name}_{it}", place) for it in ("v3", "v4", "any", "by_instruction")}
         which, first = f"by_{marks.level}", []
         if marks.to_v4:
             which, first = f"{which}_to_v4", [*calls["v4"], ","]
         if marks.much:
             which, first = f"{which}_if", [*words_of(marks.much), ",", *(first if marks.to_v4 else [])]
-        elif marks.has("copied by PEXT"):
-            first = [*calls["by_pext"], ","]
+        elif marks.has("copied by instruction"):
+            first = [*calls["by_instruction"], ","]
         goes_to = [*words_of(f"{NATIVE}::{which}!"), "(", *first, *calls["v3"], ",", *calls["any"], ")"]
         self.body = ["{", *goes_to, "}"]
         ours = OURS if marks.has("called at its level") else []

@@ -57,7 +57,7 @@ def with_holes(text):
 class Rewriting:
     """All rules, for a crate's files.
 
-    >>> instead = {("by PDEP", "Portable"): "native::Bmi2", ("replaced by", "f"): "native::g"}
+    >>> instead = {("type by instruction", "Portable"): "native::Bits", ("replaced by", "f"): "native::g"}
     >>> rewriting = Rewriting(True, "crate::kit", {("A", "set"), ("D", "bits")}, {"D"}, instead)
     >>> said = lambda text: " ".join(rewriting.all(words_of(text)))
     >>> said("x.set(alloc, i); A::set(i); B::set(i); E::bits(1)")
@@ -68,8 +68,8 @@ class Rewriting:
     Traceback (most recent call last):
     rereading.lexer.Unexplained: `laws :: f ( cut ( & mut v ) )` may do something
     >>> said("a::narrow::<Portable, _>(x, alloc); Portable::of(f(1))")
-    'crate :: native :: quickest ! ( a :: narrow :: < native :: Bmi2 , _ > ( x ) , a :: narrow :: < Portable , _ > ( x ) ) \
-; crate :: native :: quickest ! ( native :: Bmi2 :: of ( native :: g ( 1 ) ) , Portable :: of ( native :: g ( 1 ) ) )'
+    'crate :: native :: quickest ! ( a :: narrow :: < native :: Bits , _ > ( x ) , a :: narrow :: < Portable , _ > ( x ) ) \
+; crate :: native :: quickest ! ( native :: Bits :: of ( native :: g ( 1 ) ) , Portable :: of ( native :: g ( 1 ) ) )'
     """
 
     def __init__(self, inside, kit, twins, lawful, instead, names=()):
@@ -86,7 +86,7 @@ class Rewriting:
         words = self.by_table(without_laws(without_alloc(words)))
         words = renamed_methods(words)
         if self.inside:
-            words = self.by_body(quickest(words, {name: it for (how, name), it in self.instead.items() if how == "by PDEP"}))
+            words = self.by_body(quickest(words, {name: it for (how, name), it in self.instead.items() if how == "type by instruction"}))
         else:
             words = self.by_public_name(words)
         if left := next((it for it in words if it in LEFT), None):

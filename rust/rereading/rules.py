@@ -15,7 +15,7 @@ wherever its words stand: the made file has to have the other words there. These
 | calls of such a call inside the package | calls of what has the body | `rewriting.by_body` |
 | an iterator of a public call | all that can be gone through | `forms.widened` |
 | a function that doesn't say how it is inlined | `#[inline]`, or always if a level stands on it | `forms.inlined` |
-| a function with the mark of a level, or `copied by PEXT` | also its copies | `forms.copies` |
+| a function with the mark of a level, or `copied by instruction` | also its copies | `forms.copies` |
 | a lent test of rows | one that may count what it is asked | `functions.py` |
 | methods, and paths to methods, with names of the table `METHODS` | the others there | `rewriting.renamed_methods` |
 | a method with the name of another type's call with conditions | also one with that one's other name | `forms.by_types` |
@@ -26,7 +26,7 @@ wherever its words stand: the made file has to have the other words there. These
 | a method that is hidden in documentation | the package's own | `forms.py` |
 | a field that is marked `visible` | what the package sees | `expected.fields` |
 | files of programs | also `#![no_implicit_prelude]` | `package.finished` |
-| calls inside the package with a type that is marked `by PDEP` | also with the mark's, where it is quick | `rewriting.quickest` |
+| calls inside the package with a type that is marked `by instruction` | also with the mark's, where it is quick | `rewriting.quickest` |
 | calls inside the package of what is marked `replaced by` | calls of what the mark says | `rewriting.all` |
 | a module that is marked `replaced by` | an import of the one by hand | `expected.form_mod` |
 """
@@ -86,6 +86,7 @@ NATIVE, TESTS = "crate::native", "crate::conditions"
 SAFETY = "// SAFETY: its answers are proved to be as the contract says."
 FEATURES = '"avx2,bmi1,bmi2,f16c,fma,lzcnt,movbe,popcnt"'
 MORE_FEATURES = '"avx512f,avx512bw,avx512cd,avx512dq,avx512vl"'
+ARM_FEATURES = '"sve2-bitperm"'
 
 # Methods of Rust's own lists, texts and iterators that end the program where memory is refused: calls, definitions and
 # paths of these names have others, of a proved type's own too, so that types tell which is meant.

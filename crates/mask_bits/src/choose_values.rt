@@ -43,7 +43,7 @@ pub struct LastChosen {
 /// Writes the values of `values` at the true values of `masks`, in their order, to the front of `out`, as far as they
 /// fill words of 64. Answers how many there are, and those past the whole words.
 // rust: level
-// rust: copied by PEXT
+// rust: copied by instruction
 #[tactic(auto, using(crate::proofs::ChosenBitLemmas::chosen_so_far))]
 pub fn put_chosen(masks: &BitChunks<'_>, values: &BitChunks<'_>, out: &mut [u8]) -> LastChosen
     requires fitting { length values.now ≡ length masks.now }
@@ -65,7 +65,7 @@ pub fn put_chosen(masks: &BitChunks<'_>, values: &BitChunks<'_>, out: &mut [u8])
 }
 
 // The same by pairs of whole words.
-// rust: by PEXT native::put_pairs
+// rust: by instruction native::put_pairs
 fn put_pairs(masks: &BitChunks<'_>, values: &BitChunks<'_>, out: &mut [u8]) -> LastChosen
     requires fits { length masks.now < 2 ^ 64 }
     requires fitting { length values.now ≡ length masks.now }

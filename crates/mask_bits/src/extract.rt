@@ -19,7 +19,7 @@ const FEW: u32 = 4;
 /// The bits of `source` at the set places of `mask`, moved down to the low end in their order, and
 /// zeros above them: what the instruction PEXT does. It takes about as long at each mask, and less
 /// where all places are set or at most four.
-// rust: by PEXT native::extract
+// rust: by instruction native::extract
 #[inline]
 #[tactic(auto, using(crate::proofs::Lists::Words::WordLemmas::ones_of_word))]
 pub fn extract(source: u64, mask: u64) -> u64

@@ -1,4 +1,5 @@
-//! Extractions by PEXT: what a copy of `put_chosen` has in place of the proved functions of these names.
+//! Extractions by an instruction, PEXT or BEXT: what a copy of `put_chosen` has in place of the proved functions of these
+//! names.
 #![allow(clippy::inline_always, reason = "each is compiled for what the function around it has")]
 
 use super::instructions;
@@ -6,7 +7,7 @@ use crate::proved::mask_bits::BitChunks;
 use crate::proved::mask_bits::choose_values::LastChosen;
 use core::hint::{black_box, select_unpredictable};
 
-/// The bits at set places, by PEXT.
+/// The bits at set places, by the instruction.
 #[inline(always)]
 pub(crate) fn extract(source: u64, mask: u64) -> u64 {
     instructions::extract(source, mask)

@@ -15,23 +15,31 @@ pub(crate) fn has_v4() -> bool {
     cfg!(not(target_feature = "avx512vl")) && found::all() & found::V4 != 0
 }
 
-/// Whether the processor has PDEP and PEXT in a few cycles, and x86-64-v3.
+/// Whether the processor has instructions for the bits at set places: on x86-64 PDEP and PEXT in a few cycles, and x86-64-v3,
+/// and on 64-bit ARM BDEP and BEXT.
 #[inline(always)]
 pub(crate) fn has_quick_bits() -> bool {
-    #[cfg(target_arch = "x86_64")]
+    #[cfg(any(target_arch = "x86_64", target_arch = "aarch64"))]
     return found::all() & found::QUICK_BITS != 0;
-    #[cfg(not(target_arch = "x86_64"))]
+    #[cfg(not(any(target_arch = "x86_64", target_arch = "aarch64")))]
     return false;
 }
 
-#[cfg(target_arch = "x86_64")]
+#[cfg(any(target_arch = "x86_64", target_arch = "aarch64"))]
 pub(super) mod found {
+    #[cfg(target_arch = "x86_64")]
     use core::arch::x86_64::__cpuid;
     use core::sync::atomic::{AtomicU8, Ordering::Relaxed};
+    #[cfg(all(feature = "std", target_arch = "aarch64"))]
+    use std::arch::is_aarch64_feature_detected as is_detected;
+    #[cfg(all(feature = "std", target_arch = "x86_64"))]
+    use std::arch::is_x86_feature_detected as is_detected;
 
     const KNOWN: u8 = 1;
-    pub(in super::super) const V3: u8 = 2;
-    pub(in super::super) const QUICK_BITS: u8 = 4;
+    pub(in super::super) const QUICK_BITS: u8 = 2;
+    #[cfg(target_arch = "x86_64")]
+    pub(in super::super) const V3: u8 = 4;
+    #[cfg(target_arch = "x86_64")]
     pub(in super::super) const V4: u8 = 8;
 
     static FOUND: AtomicU8 = AtomicU8::new(0);
@@ -62,11 +70,7 @@ pub(super) mod found {
     #[cold]
     #[inline(never)]
     fn find() -> u8 {
-        let mut found = KNOWN;
-        if !cfg!(row_mask_one_level) && has_v3() {
-            found |= V3 | if is_before_zen_3() { 0 } else { QUICK_BITS };
-            found |= if has_avx512() { V4 } else { 0 };
-        }
+        let found = KNOWN | if cfg!(row_mask_one_level) { 0 } else { asked() };
         FOUND.store(found, Relaxed);
         found
     }
@@ -76,7 +80,7 @@ pub(super) mod found {
         ($($feature:tt)*) => {
             $({
                 #[cfg(feature = "std")]
-                let has = std::arch::is_x86_feature_detected!($feature);
+                let has = is_detected!($feature);
                 #[cfg(not(feature = "std"))]
                 let has = cfg!(target_feature = $feature);
                 has
@@ -84,15 +88,33 @@ pub(super) mod found {
         };
     }
 
+    #[cfg(target_arch = "aarch64")]
+    fn asked() -> u8 {
+        if has!("sve2-bitperm") { QUICK_BITS } else { 0 }
+    }
+
+    #[cfg(target_arch = "x86_64")]
+    fn asked() -> u8 {
+        if !has_v3() {
+            return 0;
+        }
+        let quick_bits = if is_before_zen_3() { 0 } else { QUICK_BITS };
+        let v4 = if has_avx512() { V4 } else { 0 };
+        V3 | quick_bits | v4
+    }
+
+    #[cfg(target_arch = "x86_64")]
     fn has_v3() -> bool {
         has!("avx2" "bmi1" "bmi2" "f16c" "fma" "lzcnt" "movbe" "popcnt")
     }
 
+    #[cfg(target_arch = "x86_64")]
     fn has_avx512() -> bool {
         has!("avx512f" "avx512bw" "avx512cd" "avx512dq" "avx512vl")
     }
 
     // AMD's processors before Zen 3 take up to hundreds of cycles for PDEP and PEXT.
+    #[cfg(target_arch = "x86_64")]
     fn is_before_zen_3() -> bool {
         // SAFETY: each processor of x86-64 answers.
         #[allow(unused_unsafe, reason = "newer compilers ask for none")]

@@ -1,12 +1,13 @@
 //! Calls of functions that are compiled twice or more: for what the program is compiled for, and for what the processor has.
 
-/// Calls the function that is compiled for what the processor has: where PEXT is quick, for x86-64-v3, or for any.
+/// Calls the function that is compiled for what the processor has: where an instruction takes the
+/// bits at set places, and is quick, for x86-64-v3, or for any.
 macro_rules! by_level {
-    ($by_pext:expr, $v3:expr, $any:expr) => {{
-        #[cfg(target_arch = "x86_64")]
+    ($by_instruction:expr, $v3:expr, $any:expr) => {{
+        #[cfg(any(target_arch = "x86_64", target_arch = "aarch64"))]
         if crate::native::has_quick_bits() {
             // SAFETY: the processor has all that it is compiled for, as was found.
-            return unsafe { $by_pext };
+            return unsafe { $by_instruction };
         }
         crate::native::by_level!($v3, $any)
     }};

@@ -11,12 +11,15 @@ use crate::proved::mask_bits::room::Room;
 use crate::proved::mask_bits::small_rows::{ByTable, MoveRows};
 
 /// Whether a program is compiled for an instruction that moves the bytes of a register to places that another one has.
-const MOVES_BY_TABLE: bool = cfg!(all(target_feature = "ssse3", not(row_mask_arrays)));
+const MOVES_BY_TABLE: bool = cfg!(all(
+    any(target_feature = "ssse3", all(target_feature = "neon", target_endian = "little")),
+    not(row_mask_arrays)
+));
 
 /// Whether several rows of one byte are moved at once: by that instruction, or by PEXT.
 #[inline(always)]
 pub fn moves_bytes() -> bool {
-    MOVES_BY_TABLE || has_quick_bits()
+    MOVES_BY_TABLE || cfg!(target_arch = "x86_64") && has_quick_bits()
 }
 
 /// Whether several rows of four bytes are: by an instruction of x86-64-v3.

@@ -1,20 +1,50 @@
-//! Each call that goes by what the processor has, with all of it, without AVX-512, without PDEP and PEXT, and without
-//! x86-64-v3.
+//! Each call that goes by what the processor has, with all of it, and without one after another: on x86-64 AVX-512, PDEP and
+//! PEXT, and x86-64-v3, and on 64-bit ARM BDEP and BEXT.
 
-use super::features::found::{MOST, QUICK_BITS, V3, V4};
+use super::features::found::{MOST, QUICK_BITS};
+#[cfg(target_arch = "x86_64")]
+use super::features::found::{V3, V4};
+use super::instructions::{deposit, extract};
 use crate::{BitBuffer, Bitmap, BitmapBuf, Mask, Row, Selection};
+
+#[cfg(target_arch = "x86_64")]
+const LEVELS: [u8; 4] = [0, V3, V3 | QUICK_BITS, V3 | QUICK_BITS | V4];
+#[cfg(target_arch = "aarch64")]
+const LEVELS: [u8; 2] = [0, QUICK_BITS];
 
 /// A call gives the same whatever the processor has.
 fn same<T: PartialEq + std::fmt::Debug>(call: impl Fn() -> T) {
-    let [none, no_bits, no_avx512, all] =
-        [0, V3, V3 | QUICK_BITS, V3 | QUICK_BITS | V4].map(|most| {
-            MOST.set(most);
-            call()
-        });
+    let [none, more @ ..] = LEVELS.map(|most| {
+        MOST.set(most);
+        call()
+    });
     MOST.set(u8::MAX);
-    assert_eq!(all, no_avx512);
-    assert_eq!(no_avx512, no_bits);
-    assert_eq!(no_bits, none);
+    for it in more {
+        assert_eq!(it, none);
+    }
+}
+
+/// The instructions, beside a loop over the bits.
+#[test]
+fn instructions() {
+    println!("instructions for the bits at set places: {}", super::has_quick_bits());
+    if !super::has_quick_bits() {
+        return;
+    }
+    let words =
+        (0..64).flat_map(|i| [1 << i, u64::MAX << i, u64::MAX >> i, 0x9E37_79B9_7F4A_7C15 << i]);
+    let words: Vec<u64> = words.chain([0, u64::MAX / 3, 0x2545_F491_4F6C_DD1D]).collect();
+    for &mask in &words {
+        let places: Vec<u32> = (0..64).filter(|place| mask >> place & 1 == 1).collect();
+        for &word in &words {
+            let (mut deposited, mut extracted) = (0, 0);
+            for (number, place) in places.iter().enumerate() {
+                deposited |= (word >> number & 1) << place;
+                extracted |= (word >> place & 1) << number;
+            }
+            assert_eq!((deposit(word, mask), extract(word, mask)), (deposited, extracted));
+        }
+    }
 }
 
 // (none to all of them, and runs)

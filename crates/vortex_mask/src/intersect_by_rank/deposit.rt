@@ -50,7 +50,7 @@ const FEW: usize = 2;
 /// Deposits in few steps at every mask: by a closed form where at most two bits of the mask are
 /// set or clear, and by the network between, unless the source is zero. Two words at once take closed
 /// forms where both masks allow them, and else tables of their nibbles, unless both sources are zero.
-// rust: by PDEP native::Bmi2
+// rust: by instruction native::ByInstruction
 pub struct Portable;
 
 impl DepositBits for Portable {

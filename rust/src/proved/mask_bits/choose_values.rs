@@ -57,7 +57,7 @@ pub struct LastChosen {
 #[inline]
 pub fn put_chosen(masks: &BitChunks<'_>, values: &BitChunks<'_>, out: &mut [u8]) -> LastChosen {
     crate::native::by_level!(
-        put_chosen_by_pext(masks, values, out),
+        put_chosen_by_instruction(masks, values, out),
         put_chosen_v3(masks, values, out),
         put_chosen_any(masks, values, out)
     )
@@ -81,9 +81,17 @@ fn put_chosen_any(masks: &BitChunks<'_>, values: &BitChunks<'_>, out: &mut [u8])
     last
 }
 
-#[cfg(target_arch = "x86_64")]
-#[target_feature(enable = "avx2,bmi1,bmi2,f16c,fma,lzcnt,movbe,popcnt")]
-fn put_chosen_by_pext(masks: &BitChunks<'_>, values: &BitChunks<'_>, out: &mut [u8]) -> LastChosen {
+#[cfg(any(target_arch = "x86_64", target_arch = "aarch64"))]
+#[cfg_attr(
+    target_arch = "x86_64",
+    target_feature(enable = "avx2,bmi1,bmi2,f16c,fma,lzcnt,movbe,popcnt")
+)]
+#[cfg_attr(target_arch = "aarch64", target_feature(enable = "sve2-bitperm"))]
+fn put_chosen_by_instruction(
+    masks: &BitChunks<'_>,
+    values: &BitChunks<'_>,
+    out: &mut [u8],
+) -> LastChosen {
     let words = masks.started_words();
     let mut last = crate::native::put_pairs(masks, values, out);
     for i in masks.len() / 2 * 2..words {

@@ -42,7 +42,7 @@ pub fn row_mask_intersect_by_rank(
     put_remainder(
         out,
         crate::native::quickest!(
-            crate::native::Bmi2::deposit_bits_proved(source, word, ones),
+            crate::native::ByInstruction::deposit_bits_proved(source, word, ones),
             Portable::deposit_bits_proved(source, word, ones)
         ),
         len,
@@ -76,7 +76,7 @@ fn narrow_whole_any(chunks: &BitChunks<'_>, ranks: &RankBits<'_>, are_few: bool,
     if !are_few {
         crate::native::quickest!(
             crate::proved::vortex_mask::intersect_by_rank::kernels::bit_buffers::narrow_by_bits_any::<
-                crate::native::Bmi2,
+                crate::native::ByInstruction,
             >(chunks, ranks, out),
             crate::proved::vortex_mask::intersect_by_rank::kernels::bit_buffers::narrow_by_bits_any::<
                 Portable,
@@ -120,7 +120,7 @@ pub fn row_mask_intersect_at_ranks(
         narrow_at::<PortableLoop>(bytes, offset, len, true_count, ranks, out);
     } else {
         crate::native::quickest!(
-            narrow_at::<crate::native::Bmi2>(bytes, offset, len, true_count, ranks, out),
+            narrow_at::<crate::native::ByInstruction>(bytes, offset, len, true_count, ranks, out),
             narrow_at::<Portable>(bytes, offset, len, true_count, ranks, out)
         );
     }

@@ -29,7 +29,9 @@ pub(super) fn narrow_by_path<C: CountSteps>(
         }
         RankPath::BitBuffers => {
             crate::native::quickest!(
-                intersect_bit_buffers_with::<crate::native::Bmi2, _>(buffer, bits, true_count),
+                intersect_bit_buffers_with::<crate::native::ByInstruction, _>(
+                    buffer, bits, true_count
+                ),
                 intersect_bit_buffers_with::<Portable, _>(buffer, bits, true_count)
             )
         }
@@ -40,7 +42,7 @@ pub(super) fn narrow_by_path<C: CountSteps>(
         RankPath::RankIndices => {
             let indices = ranks.cached_indices().unwrap();
             crate::native::quickest!(
-                intersect_bit_buffer_by_rank_indices_with::<crate::native::Bmi2, _>(
+                intersect_bit_buffer_by_rank_indices_with::<crate::native::ByInstruction, _>(
                     buffer, indices
                 ),
                 intersect_bit_buffer_by_rank_indices_with::<Portable, _>(buffer, indices)
@@ -70,14 +72,18 @@ fn by_selections<C: CountSteps>(
         Some(cached) => {
             let ranks = cached.iter().copied();
             crate::native::quickest!(
-                intersect_mask_driven_with::<crate::native::Bmi2, _, _>(buffer, ranks, true_count),
+                intersect_mask_driven_with::<crate::native::ByInstruction, _, _>(
+                    buffer, ranks, true_count
+                ),
                 intersect_mask_driven_with::<Portable, _, _>(buffer, ranks, true_count)
             )
         }
         None => {
             let ranks = ranks.bit_buffer().set_indices();
             crate::native::quickest!(
-                intersect_mask_driven_with::<crate::native::Bmi2, _, _>(buffer, ranks, true_count),
+                intersect_mask_driven_with::<crate::native::ByInstruction, _, _>(
+                    buffer, ranks, true_count
+                ),
                 intersect_mask_driven_with::<Portable, _, _>(buffer, ranks, true_count)
             )
         }
