@@ -129,10 +129,10 @@ methods! {
         })
     };
     u8x16: simd_eq -> LaneMask, |a, b| {
-        let [bytes] = equal(a, b);
-        let eights = call!(vpaddq_u8(bytes, bytes));
-        let pairs = call!(vpaddq_u8(eights, eights));
-        u64::from(call!(vgetq_lane_u16::<0>(call!(vreinterpretq_u16_u8(call!(vpaddq_u8(pairs, pairs)))))))
+        let [bytes] = equal(a, b, 0x8040_2010_0804_0201);
+        // Those of eight lanes, with those of the other eight in the upper bytes.
+        let pairs = call!(vzip1q_u8(bytes, call!(vextq_u8::<8>(bytes, bytes))));
+        u64::from(call!(vaddvq_u16(call!(vreinterpretq_u16_u8(pairs)))))
     };
     u8x32: simd_eq -> LaneMask, |a, b| {
         let [first, second] = equal(a, b);
@@ -141,10 +141,12 @@ methods! {
         u64::from(call!(vgetq_lane_u32::<0>(call!(vreinterpretq_u32_u8(call!(vpaddq_u8(pairs, pairs)))))))
     };
     u8x64: simd_eq -> LaneMask, |a, b| {
-        let [first, second, third, fourth] = equal(a, b);
+        // Bits as numbers below 0, since of bits that no two lanes have the compiler doesn't make pairwise sums.
+        let [first, second, third, fourth] = equal(a, b, 0x80C0_E0F0_F8FC_FEFF);
         let (front, back) = (call!(vpaddq_u8(first, second)), call!(vpaddq_u8(third, fourth)));
-        let pairs = call!(vpaddq_u8(front, back));
-        call!(vgetq_lane_u64::<0>(call!(vreinterpretq_u64_u8(call!(vpaddq_u8(pairs, pairs))))))
+        let nibbles = call!(vpaddq_u8(front, back));
+        let bytes = call!(vpadd_u8(call!(vget_low_u8(nibbles)), call!(vget_high_u8(nibbles))));
+        call!(vget_lane_u64::<0>(call!(vreinterpret_u64_u8(call!(vsub_u8(call!(vdup_n_u8(0)), bytes))))))
     };
     u8x16: count_ones -> u8x16, |bytes| bytes.map(|it| call!(vcntq_u8(it)));
 }
@@ -176,9 +178,9 @@ fn fours(bytes: uint8x8_t) -> [uint32x4_t; 2] {
     [call!(vmovl_u16(call!(vget_low_u16(pairs)))), call!(vmovl_high_u16(pairs))]
 }
 
-/// Of each eight bytes, byte `i` is bit `i` where it is equal, and else 0.
+/// Of each eight bytes, byte `i` is that of a number where it is equal, and else 0.
 #[inline(always)]
-fn equal<const N: usize>(a: [uint8x16_t; N], b: [uint8x16_t; N]) -> [uint8x16_t; N] {
-    let [bits] = u64x2::each(0x8040_2010_0804_0201).to_le_bytes().0;
-    from_fn(|k| call!(vandq_u8(call!(vceqq_u8(a[k], b[k])), bits)))
+fn equal<const N: usize>(a: [uint8x16_t; N], b: [uint8x16_t; N], number: u64) -> [uint8x16_t; N] {
+    let [bytes] = u64x2::each(number).to_le_bytes().0;
+    from_fn(|k| call!(vandq_u8(call!(vceqq_u8(a[k], b[k])), bytes)))
 }
