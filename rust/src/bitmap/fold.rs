@@ -9,6 +9,7 @@ use crate::proved::mask_bits::BitChunks;
 use crate::{Bitmap, BitmapBuf, Error};
 
 // To fold the rows of so few values takes less time than to ask what the processor has.
+#[cfg(target_arch = "x86_64")]
 const FEW: usize = 128;
 
 impl Bitmap<'_> {

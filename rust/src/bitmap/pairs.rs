@@ -310,7 +310,7 @@ impl Bitmap<'_> {
     /// The bitmap narrowed by another over its true values: true value number `k` stays true exactly where value
     /// `k` of `ranks` is true.
     ///
-    /// Where the processor has the instruction `pdep`, and in a few cycles, that deposits the words.
+    /// Where the processor has the instruction `pdep`, and in a few cycles, or on 64-bit ARM `bdep`, that deposits the words.
     ///
     /// # Errors
     /// [`Error::RanksDiffer`] where `ranks` has not one value for each true value, and [`Error::OutOfMemory`].

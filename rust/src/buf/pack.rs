@@ -17,6 +17,7 @@ const BLOCK: usize = 1024;
 type Block = [MaybeUninit<u16>; BLOCK];
 
 // To pack so few values takes less time than to ask what the processor has.
+#[cfg(target_arch = "x86_64")]
 const FEW: usize = 128;
 
 /// Takes values, as many as there are or as the block has places, and answers how many these are.

@@ -27,7 +27,7 @@ fn same<T: PartialEq + std::fmt::Debug>(call: impl Fn() -> T) {
 /// The instructions, beside a loop over the bits.
 #[test]
 fn instructions() {
-    println!("instructions for the bits at set places: {}", super::has_quick_bits());
+    println!("instructions for bits at set places: {}", super::has_quick_bits());
     if !super::has_quick_bits() {
         return;
     }
