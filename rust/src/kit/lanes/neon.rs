@@ -134,12 +134,6 @@ methods! {
         let pairs = call!(vzip1q_u8(bytes, call!(vextq_u8::<8>(bytes, bytes))));
         u64::from(call!(vaddvq_u16(call!(vreinterpretq_u16_u8(pairs)))))
     };
-    u8x32: simd_eq -> LaneMask, |a, b| {
-        let [first, second] = equal(a, b);
-        let eights = call!(vpaddq_u8(first, second));
-        let pairs = call!(vpaddq_u8(eights, eights));
-        u64::from(call!(vgetq_lane_u32::<0>(call!(vreinterpretq_u32_u8(call!(vpaddq_u8(pairs, pairs)))))))
-    };
     u8x64: simd_eq -> LaneMask, |a, b| {
         // Bits as numbers below 0, since of bits that no two lanes have the compiler doesn't make pairwise sums.
         let [first, second, third, fourth] = equal(a, b, 0x80C0_E0F0_F8FC_FEFF);
@@ -147,6 +141,14 @@ methods! {
         let nibbles = call!(vpaddq_u8(front, back));
         let bytes = call!(vpadd_u8(call!(vget_low_u8(nibbles)), call!(vget_high_u8(nibbles))));
         call!(vget_lane_u64::<0>(call!(vreinterpret_u64_u8(call!(vsub_u8(call!(vdup_n_u8(0)), bytes))))))
+    };
+    u8x32: simd_eq -> LaneMask, |a, b| {
+        // (as there)
+        let [first, second] = equal(a, b, 0x80C0_E0F0_F8FC_FEFF);
+        let pairs = call!(vpaddq_u8(first, second));
+        let nibbles = call!(vpadd_u8(call!(vget_low_u8(pairs)), call!(vget_high_u8(pairs))));
+        let bytes = call!(vpadd_u8(nibbles, nibbles));
+        u64::from(call!(vget_lane_u32::<0>(call!(vreinterpret_u32_u8(call!(vsub_u8(call!(vdup_n_u8(0)), bytes)))))))
     };
     u8x16: count_ones -> u8x16, |bytes| bytes.map(|it| call!(vcntq_u8(it)));
 }
