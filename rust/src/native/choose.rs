@@ -12,25 +12,28 @@ use alloc::vec::Vec;
 use core::any::TypeId;
 use core::marker::PhantomData;
 use core::mem::{MaybeUninit, transmute};
-use core::ops::Range;
+use core::ops::{Range, RangeInclusive};
 use core::slice;
 
 // Several small rows are moved at once where one value in so many is true. Where fewer are, to count those of each word
 // takes longer than is gained.
 const ONE_TRUE_IN: usize = 8;
 
-// They are in words of so many true values or more, of rows of one byte, of four and of eight. Fewer take less time one by
-// one.
+// They are in words of so many true values or more, of rows of one byte, of two or four, and of eight. Fewer take less time
+// one by one.
 const FEW_BYTES: usize = 6;
 #[cfg(target_arch = "x86_64")]
 const FEW_FOURS: usize = 8;
 #[cfg(target_arch = "x86_64")]
 const FEW_EIGHTS: usize = 10;
 
-// Rows of eight bytes are where three in so many values are true.
+// Rows of eight bytes are where three in so many values are true, and rows of two without AVX-512.
 const THREE_TRUE_IN: usize = 8;
 
-// AVX-512 moves them, and those of four bytes, of more values than these.
+// Rows of so many bytes are then taken four at a time, where they aren't moved so.
+const BY_FOUR: RangeInclusive<usize> = 8..=24;
+
+// AVX-512 moves rows of more values than these.
 #[cfg(target_arch = "x86_64")]
 const FEW_VALUES: usize = 64;
 
@@ -62,7 +65,7 @@ pub(crate) unsafe fn choose_rows_by_size<T: Copy>(
     if has_many && is_small && unsafe { choose_several(rows, &chunks, out) } {
         return;
     }
-    let by_four = size_of::<T>() == 8 && len > ANY_LEVEL && is_dense(len, count);
+    let by_four = BY_FOUR.contains(&size_of::<T>()) && len > ANY_LEVEL && is_dense(len, count);
     let cells = as_cells(rows);
     if has_long_runs {
         copy_runs(cells, SetSlices::new(chunks).map(|(start, end)| start..end), out);
@@ -83,44 +86,72 @@ pub(crate) unsafe fn choose_several<T: Copy>(
     chunks: &BitChunks<'_>,
     out: &mut [MaybeUninit<T>],
 ) -> bool {
-    match size_of::<T>() {
-        1 if moves_bytes() => {
-            // SAFETY: a row is a byte, as is asked here. Each place gets one, and none is read before.
-            let (rows, out) = unsafe { as_byte_rows(rows, out) };
-            move_several::<FEW_BYTES, u8, Moved>(rows, chunks, out);
-            true
+    // SAFETY: a row is as many bytes as stand here, and this is asked here too.
+    unsafe {
+        match size_of::<T>() {
+            1 if moves_bytes() => move_as::<FEW_BYTES, u8, Moved, T>(rows, chunks, out),
+            #[cfg(target_arch = "x86_64")]
+            size @ (2 | 4 | 8) => return move_wider(size, rows, chunks, out),
+            _ => return false,
         }
-        #[cfg(target_arch = "x86_64")]
-        4 if rows.len() > FEW_VALUES && compresses() => {
-            // SAFETY: a row is four such bytes. Each place gets a row's, and none is read before.
-            let (rows, out) = unsafe { as_byte_rows(rows, out) };
-            move_several::<FEW_FOURS, [u8; 4], Compressed>(rows, chunks, out);
-            true
-        }
-        #[cfg(target_arch = "x86_64")]
-        4 if moves_fours() => {
-            // SAFETY: a row is four such bytes. Each place gets a row's, and none is read before.
-            let (rows, out) = unsafe { as_byte_rows(rows, out) };
-            move_several::<FEW_FOURS, [u8; 4], Moved>(rows, chunks, out);
-            true
-        }
-        #[cfg(target_arch = "x86_64")]
-        8 if rows.len() > FEW_VALUES && is_dense(rows.len(), out.len()) && compresses() => {
-            // SAFETY: a row is eight such bytes. Each place gets a row's, and none is read before.
-            let (rows, out) = unsafe { as_byte_rows(rows, out) };
-            move_several::<FEW_EIGHTS, [u8; 8], Compressed>(rows, chunks, out);
-            true
-        }
-        _ => false,
     }
+    true
 }
 
-/// Whether, with so many true values, so large a share is true that several rows of eight bytes are moved after one branch.
+/// The same of rows of 2, 4 or 8 bytes, which are so many.
+///
+/// # Safety
+/// As there.
+#[cfg(target_arch = "x86_64")]
+#[inline]
+unsafe fn move_wider<T: Copy>(
+    size: usize,
+    rows: &[T],
+    chunks: &BitChunks<'_>,
+    out: &mut [MaybeUninit<T>],
+) -> bool {
+    let is_dense = is_dense(rows.len(), out.len());
+    // SAFETY: this is what is asked here too.
+    unsafe {
+        if rows.len() > FEW_VALUES && (size < 8 || is_dense) && compresses() {
+            match size {
+                2 => move_as::<FEW_FOURS, [u8; 2], Compressed, T>(rows, chunks, out),
+                4 => move_as::<FEW_FOURS, [u8; 4], Compressed, T>(rows, chunks, out),
+                _ => move_as::<FEW_EIGHTS, [u8; 8], Compressed, T>(rows, chunks, out),
+            }
+        } else if size < 8 && (size == 4 || is_dense) && moves_fours() {
+            match size {
+                2 => move_as::<FEW_FOURS, [u8; 2], Moved, T>(rows, chunks, out),
+                _ => move_as::<FEW_FOURS, [u8; 4], Moved, T>(rows, chunks, out),
+            }
+        } else {
+            return false;
+        }
+    }
+    true
+}
+
+/// Whether, with so many true values, so large a share is true that several wide rows are moved after one branch.
 fn is_dense(len: usize, count: usize) -> bool {
     count / 3 >= len / THREE_TRUE_IN
 }
 
-/// The same of rows of bytes. (Inlined, it would slow down the loop beside it.)
+/// The same of rows that are taken as bytes.
+///
+/// # Safety
+/// As there. `B` is a byte or an array of bytes, as long as a row.
+#[inline]
+unsafe fn move_as<const FEW: usize, B: Copy, M: MoveRows<B>, T: Copy>(
+    rows: &[T],
+    chunks: &BitChunks<'_>,
+    out: &mut [MaybeUninit<T>],
+) {
+    // SAFETY: this is what is asked here. Each place gets a row's bytes, and none is read before.
+    let (rows, out) = unsafe { as_byte_rows(rows, out) };
+    move_several::<FEW, B, M>(rows, chunks, out);
+}
+
+// (Inlined, it would slow down the loop beside it.)
 #[inline(never)]
 fn move_several<const FEW: usize, T: Copy, M: MoveRows<T>>(
     rows: &[T],

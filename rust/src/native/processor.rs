@@ -22,21 +22,21 @@ pub fn moves_bytes() -> bool {
     MOVES_BY_TABLE || cfg!(target_arch = "x86_64") && has_quick_bits()
 }
 
-/// Whether several rows of four bytes are: by an instruction of x86-64-v3.
+/// Whether several rows of four bytes are, and of two: by an instruction of x86-64-v3.
 #[cfg(target_arch = "x86_64")]
 #[inline(always)]
 pub(crate) fn moves_fours() -> bool {
     cfg!(target_feature = "avx2") || has_v3()
 }
 
-/// Whether several rows of four or eight bytes are by an instruction of AVX-512.
+/// Whether several rows of two, four or eight bytes are by an instruction of AVX-512.
 #[cfg(target_arch = "x86_64")]
 #[inline(always)]
 pub(crate) fn compresses() -> bool {
     cfg!(target_feature = "avx512f") || has_v4()
 }
 
-/// What moves them, where the answer is yes: rows of one byte, and of four.
+/// What moves them, where the answer is yes: rows of one byte, of two, and of four.
 pub struct Moved;
 
 /// What moves them by AVX-512.
@@ -72,12 +72,48 @@ impl MoveRows<[u8; 4]> for Compressed {
     }
 }
 
+/// As numbers of four bytes.
+#[cfg(target_arch = "x86_64")]
+impl MoveRows<[u8; 2]> for Moved {
+    #[inline(always)]
+    fn push_sixteen<R: Room<[u8; 2]>>(out: &mut R, rows: &[[u8; 2]], bits: u16) {
+        push_halves(out, rows, bits, |rows, byte| {
+            narrow(instructions::fours_at(&widen::<8>(rows), places_of(byte).to_array()))
+        });
+    }
+}
+
+#[cfg(target_arch = "x86_64")]
+impl MoveRows<[u8; 2]> for Compressed {
+    #[inline(always)]
+    fn push_sixteen<R: Room<[u8; 2]>>(out: &mut R, rows: &[[u8; 2]], bits: u16) {
+        let moved = narrow(instructions::sixteen_fours_at(&widen::<16>(rows), bits));
+        push_first(out, moved, bits.count_ones());
+    }
+}
+
 #[cfg(target_arch = "x86_64")]
 impl MoveRows<[u8; 8]> for Compressed {
     #[inline(always)]
     fn push_sixteen<R: Room<[u8; 8]>>(out: &mut R, rows: &[[u8; 8]], bits: u16) {
         push_halves(out, rows, bits, instructions::eights_at);
     }
+}
+
+/// The first rows of two bytes as numbers of four.
+#[cfg(target_arch = "x86_64")]
+#[inline(always)]
+fn widen<const N: usize>(rows: &[[u8; 2]]) -> [u32; N] {
+    let rows: &[[u8; 2]; N] = rows.first_chunk().expect("so many rows");
+    rows.map(|row| u16::from_ne_bytes(row).into())
+}
+
+/// The numbers as rows of two bytes, of which they were made.
+#[cfg(target_arch = "x86_64")]
+#[inline(always)]
+fn narrow<const N: usize>(numbers: [u32; N]) -> [[u8; 2]; N] {
+    #[allow(clippy::cast_possible_truncation, reason = "no other byte is set")]
+    numbers.map(|number| (number as u16).to_ne_bytes())
 }
 
 /// Puts the rows of sixteen bits, of which `moved` gives those of a byte, and others behind them.

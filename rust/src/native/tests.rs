@@ -122,11 +122,14 @@ fn choosing_small_rows() {
     each_list(|a, _| {
         chosen(a, |i| (i % 251).to_le_bytes()[0]);
         chosen(a, |i| i % 3 == 0);
+        chosen(a, |i| u16::try_from(i % 65_521).unwrap());
+        chosen(a, |i| [i.to_le_bytes()[1], i.to_le_bytes()[0]]);
         chosen(a, |i| u32::try_from(i).unwrap().wrapping_mul(0x9E37_79B9));
         chosen(a, |i| [i.to_le_bytes()[0], 7, i.to_le_bytes()[1], 9]);
         chosen(a, |i| char::from(i.to_le_bytes()[0]));
         chosen(a, |i| i.wrapping_mul(0x9E37_79B9_7F4A_7C15));
         chosen(a, |i| [f32::from(i.to_le_bytes()[0]), f32::from(i.to_le_bytes()[1])]);
+        chosen(a, |i| [i.to_le_bytes(), [3; 8]]);
     });
 }
 
