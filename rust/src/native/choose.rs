@@ -28,10 +28,13 @@ const FEW_FOURS: usize = 8;
 const FEW_EIGHTS: usize = 10;
 
 // Rows of eight bytes are where three in so many values are true, and rows of two without AVX-512.
+#[cfg(target_arch = "x86_64")]
 const THREE_TRUE_IN: usize = 8;
 
-// Rows of so many bytes are then taken four at a time, where they aren't moved so.
+// Rows of so many bytes that aren't moved so are taken four at a time where one in so many values is true: where fewer are,
+// most words have a step of four for one or two rows.
 const BY_FOUR: RangeInclusive<usize> = 8..=24;
+const ONE_OF_FOUR_IN: usize = 6;
 
 // AVX-512 moves rows of more values than these.
 #[cfg(target_arch = "x86_64")]
@@ -65,7 +68,8 @@ pub(crate) unsafe fn choose_rows_by_size<T: Copy>(
     if has_many && is_small && unsafe { choose_several(rows, &chunks, out) } {
         return;
     }
-    let by_four = BY_FOUR.contains(&size_of::<T>()) && len > ANY_LEVEL && is_dense(len, count);
+    let by_four =
+        BY_FOUR.contains(&size_of::<T>()) && len > ANY_LEVEL && count >= len / ONE_OF_FOUR_IN;
     let cells = as_cells(rows);
     if has_long_runs {
         copy_runs(cells, SetSlices::new(chunks).map(|(start, end)| start..end), out);
@@ -132,6 +136,7 @@ unsafe fn move_wider<T: Copy>(
 }
 
 /// Whether, with so many true values, so large a share is true that several wide rows are moved after one branch.
+#[cfg(target_arch = "x86_64")]
 fn is_dense(len: usize, count: usize) -> bool {
     count / 3 >= len / THREE_TRUE_IN
 }
