@@ -164,6 +164,8 @@ def buffer_reads(values, operand):
     for name in ("is_empty", "len", "true_count", "false_count"):
         yield f"bits.{name} {operand} => {answer(name, mask(values))}"
     yield f"bits.last_set_index {operand} => {index_text(found, len(found) - 1)}"
+    for n in {0, len(found) // 3, max(len(found) - 1, 0), len(found), MAX}:
+        yield f"bits.select,ranks.select {operand} {n} => {index_text(found, n)}"
     yield f"bits.debug {operand} => {debug_text(values)}"
     yield f"bits.set_indices {operand} => {' '.join(['indices', *map(str, found)])}"
     yield f"bits.indices {operand} => {list_text(found)}"
@@ -181,7 +183,9 @@ def buffer_walks(values, operand):
     yield f"bits.each_value {operand} => {values} by index"
     yield f"bits.iter {operand} => {walk_text(values)}0"
     selected = [index_text(found, n) for n in range(len(found) + 3)]
-    yield f"bits.select_each {operand} {len(selected)} => {' '.join([*selected, 'by number'])}"
+    yield f"bits.select_each,ranks.select_each {operand} {len(selected)} => {' '.join([*selected, 'by number'])}"
+    below = [values[:n].count("1") for n in range(len(values) + 1)]
+    yield f"ranks.count_below_each {operand} => {' '.join(['below', *map(str, below)])}"
     yield f"bits.padded {operand} => {walk_text(started)}"
     rest = f"rest {len(values) % 64} {word_of(values[64 * whole :])}"
     listed = " ".join(map(str, [whole, *started[:whole]]))

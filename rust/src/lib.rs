@@ -20,6 +20,7 @@ mod memory;
 mod native;
 mod nullable;
 mod proved;
+mod ranks;
 mod row;
 mod row_index;
 mod selection;
@@ -37,7 +38,8 @@ pub use nullable::{NullableBitmap, NullableBitmapBuf};
 #[doc(hidden)]
 pub use proved::mask_bits::BitBufferMut;
 pub use proved::mask_bits::{
-    BitBuffer, BitChunks, BitIterator, NullableBitBuffer, PaddedWords, SetIndices, SetSlices, Words,
+    BitBuffer, BitChunks, BitIterator, NullableBitBuffer, PaddedWords, Ranks, SetIndices,
+    SetSlices, Words,
 };
 pub use proved::vortex_mask::{
     AllOr, Fraction, Mask, MaskBoolIter, MaskError, MaskIter, MaskSetIndices, MaskSetSlices,

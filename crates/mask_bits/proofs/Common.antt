@@ -15,6 +15,7 @@ unfoldable pub use Rattle.mask_bits.specs.Positions.{chosen, repeated, true_at}
 pub use Rattle.mask_bits.specs.Positions.{IsFirstFrom, at_indices, count, count_below, indices_from, positions, rank_intersection}
 unfoldable pub use Rattle.mask_bits.specs.Pushed.{runs_between}
 pub use Rattle.mask_bits.specs.Pushed.{AreEdges, ArePushed, begins, runs_behind, starts_of}
+pub use Rattle.mask_bits.specs.Ranks.{AreCountsBefore}
 pub use Rattle.mask_bits.specs.Rows.{AreAnswers, AreAsComputed, AreLeft, AreLeftAsComputed, leaves}
 pub use Rattle.mask_bits.specs.RunScan.{runs, runs_from, with_index}
 pub use Rattle.mask_bits.specs.Runs.{AreRanges, AreRuns, is_inside}
@@ -24,7 +25,7 @@ unfoldable pub use Rattle.mask_bits.specs.Walk.{left_of}
 pub use Rattle.mask_bits.specs.Walk.{IsLeft, PassesTrue}
 pub use Rattle.mask_bits.specs.WordItems.{items_of}
 unfoldable pub use Rattle.mask_bits.specs.Words.{padded_parts, window, word_bits, word_parts}
-pub use Rattle.mask_bits.specs.Words.{bits_of_words, padded_part, padded_remainder, started_words, word_part}
+pub use Rattle.mask_bits.specs.Words.{IsPlaceOf, bits_of_words, padded_part, padded_remainder, started_words, word_part}
 pub use Rattle.std.proofs.Common.{All, Bool, Bor, Err, Fits, IfOk, IfSome, List, None, Ok, OnErr, Option, Result, Some, T, [], add-mul, add-one, add-zero, add_comm, ap, append-nil, append_assoc, ap₂, arith, bit_and, bit_or, bit_xor, cond}
 pub use Rattle.std.proofs.Common.{count_by, count_ones, drop, drop-drop, eq-eqb, eq-zero-or-pos, eqb, eqb-true, eqb→eq, ext_get_or, false, get_or, if◌then◌else◌, inl, inr, length, length-drop, length-take, length-take-le, lit<}
 pub use Rattle.std.proofs.Common.{lt_of_le_of_lt, lt_of_lt_of_le, ltb, ltb→lt, map, min, mod-eq_of_lt, mod-lt, mul_assoc, mul_comm, nat_eq, nat_le, nat_lt, not, option_map, pow-add, pow-suc, pow_mono, pow_pos, refl}

@@ -1,7 +1,7 @@
 -- What the laws that stand for themselves say of lists that are known: each row takes a law, and computes one instance of it.
 use Rattle.mask_bits.proofs.Common.{ℕ, ◌≡◌, Bool, true, false, List, [], ◌∷◌, length, nat_lt, slice_range, slice_get, Option, None, Some, refl, sym, arith, slice_index, slice_index_or, and_of, or_of, not_of, and_not_of, concat, limited, without_first, take, drop, positions, count, count_below, rank_intersection, repeated, AreAnswers, AreAsComputed, AreRanges, AreRuns}
 use Rattle.mask_bits.specs.Laws.Boolean.{IsFreeOfOrder, DistributesOver, Absorbs, HasComplements, AndNotIsAndOfNot}
-use Rattle.mask_bits.specs.Laws.Indices.{PositionsDetermineList, CountBelowPosition}
+use Rattle.mask_bits.specs.Laws.Indices.{PositionsDetermineList, CountBelowPosition, PositionOfCountBelow}
 use Rattle.mask_bits.specs.Laws.Nullable.{IsDeMorgan, IsTrueOfParts, KeepsNoNull, IsNotTwice, IsNotFalseOfNot, IsPlainWithoutNulls, IsByParts}
 use Rattle.mask_bits.specs.Laws.Parts.{PartOfPart, PartOfConcat, LimitOfLimit, HasLimitCount, HasCountWithoutFirst, AreSplitAtLimit}
 use Rattle.mask_bits.specs.Laws.RankIntersection.{IsRankIntersection, RankIntersectionIsTheList, RankIntersectionValue, AllTrueLeftUnit, AllTrueRightUnit, RankIntersectionPosition, RankIntersectionOfAnd, RankIntersectionOfNot}
@@ -25,6 +25,9 @@ positions_determine_list law xs len at = law xs c len at
 
 count_below_position : CountBelowPosition → count_below m (slice_index (positions m) 2) ≡ 2
 count_below_position law = law m 2 (omega arith)
+
+position_of_count_below : PositionOfCountBelow → slice_get (positions m) 1 ≡ Some 2
+position_of_count_below law = law m 2 refl
 
 -- ---- rank intersection
 

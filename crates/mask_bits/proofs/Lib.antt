@@ -9,6 +9,7 @@ mod ChosenBitLemmas
 mod CombineLemmas
 pub mod Common
 mod CompareLemmas
+mod CountBeforeLemmas
 mod Examples
 mod FirstLemmas
 mod KleeneLemmas

@@ -13,6 +13,7 @@ pub mod NullableBuffer
 pub mod Number
 pub mod Positions
 pub mod Pushed
+pub mod Ranks
 pub mod Rows
 pub mod RunScan
 pub mod Runs

@@ -1,9 +1,9 @@
 -- Words of 64 bits as lists of truth values.
-use Rattle.std.specs.Prelude.{ℕ, ◌+◌, ◌*◌, ◌-◌, ◌/◌, ◌%◌, Bool, false, nat_eq, List, [], ◌∷◌, ◌++◌, length, take, drop, map, slice_range}
+use Rattle.std.specs.Prelude.{ℕ, ◌+◌, ◌*◌, ◌-◌, ◌/◌, ◌%◌, ◌≡◌, Bool, false, nat_eq, List, [], ◌∷◌, ◌++◌, length, take, drop, map, slice_range}
 use Rattle.std.specs.Int.{bit_at}
 use Rattle.std.specs.List.{range_with_len}
 use Rattle.mask_bits.specs.Buffer.{backing_bit}
-use Rattle.mask_bits.specs.Positions.{repeated}
+use Rattle.mask_bits.specs.Positions.{count_below, repeated}
 
 -- the 64 truth values of a word: value i is true exactly if the word divided by 2 ^ i, rounded down, is odd
 unfoldable pub word_bits : ℕ → List Bool
@@ -41,3 +41,8 @@ padded_parts m = map (padded_part m) (range_with_len 0 (started_words (length m)
 abbrev pub bits_of_words : List ℕ → List Bool
 bits_of_words [] = []
 bits_of_words (w ∷ ws) = word_bits w ++ bits_of_words ws
+
+-- set bit number n of a word, counted from 0 at the lowest, stands at place p
+pub record IsPlaceOf (w n p : ℕ) : Type 0 where
+  pub set : bit_at w p ≡ 1
+  pub number : count_below (word_bits w) p ≡ n

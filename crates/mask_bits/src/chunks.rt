@@ -6,10 +6,11 @@ ghost use Rattle.std.specs.Iterator.Runs.{EveryRun, ItemsMapTo};
 ghost use Rattle.std.specs.Iterator.SizeHint.{IsWithinCount};
 ghost use Rattle.mask_bits.specs.Bitmap.{bitmap};
 ghost use Rattle.mask_bits.specs.Buffer.{IsWithinBytes, backing_bit, values};
-ghost use Rattle.mask_bits.specs.Positions.{IsFirstFrom, count, positions};
-ghost use Rattle.mask_bits.specs.Words.{word_bits, word_part, word_parts, padded_remainder};
+ghost use Rattle.mask_bits.specs.Positions.{IsFirstFrom, count, count_below, positions};
+ghost use Rattle.mask_bits.specs.Words.{IsPlaceOf, word_bits, word_part, word_parts, padded_remainder};
 ghost use Rattle.mask_bits.specs.Words.{started_words, padded_part, padded_parts};
 
+use crate::byte_places::place_in_byte;
 use crate::counts::count_bits;
 use crate::read_word::{Bits, ReadWord, Unaligned};
 use crate::words::{started_words, word_at};
@@ -120,13 +121,22 @@ impl<'a> BitChunks<'a> {
 
     /// The index of true value number `n`, counted from 0, and `None` from the true count on.
     // rust: level
-    #[tactic(auto, using(crate::proofs::Lists::Places::SelectLemmas::places_of_words, crate::proofs::Lists::Words::WordLemmas::ones_of_word))]
     pub fn select(&self, n: usize) -> Option<usize>
         ensures index { result ≡ slice_get (positions self.now) n }
         ensures within { IfSome result (λ p. p < length self.now) }
     {
         let (first, rest) = self.passed_blocks(n);
-        let mut left = rest;
+        self.select_from(first, rest)
+    }
+
+    // The index of true value number `n` among those from word `first` on.
+    #[tactic(auto, using(crate::proofs::Lists::Places::SelectLemmas::places_of_words, crate::proofs::Lists::Words::WordLemmas::ones_of_word))]
+    #[inline]
+    pub(crate) fn select_from(&self, first: usize, n: usize) -> Option<usize>
+        ensures index { result ≡ slice_get (positions self.now) (count (take (64 * first) self.now) + n) }
+        ensures within { IfSome result (λ p. p < length self.now) }
+    {
+        let mut left = n;
         for i in first..self.started_words() {
             let word = self.started_word(i);
             let ones = word.count_ones() as usize;
@@ -230,19 +240,35 @@ fn remainder(bytes: &[u8], offset: usize, len: usize) -> u64
     word_at(bytes, offset + (len - rest)) & ((1 << rest) - 1)
 }
 
-// The index of set bit number `n`, counted from 0.
-#[tactic(auto, using(crate::proofs::Lists::Places::SelectLemmas::left_in_word))]
+// The index of set bit number `n`, counted from 0: its byte is found by halves, and a table has its place there.
 #[inline]
 fn index_in_word(word: u64, n: usize) -> usize
     requires { n < count (word_bits word) }
     ensures index { slice_get (positions (word_bits word)) n ≡ Some result }
     ensures few { result < 64 }
 {
-    let mut word = word;
-    for _ in 0..n {
-        word &= word - 1;
+    let (half, left, first) = half_of(word, n, 32);
+    let (quarter, left, second) = half_of(half, left, 16);
+    let (byte, left, third) = half_of(quarter, left, 8);
+    first + second + third + place_in_byte((byte & 0xFF) as usize, left)
+}
+
+// Of the lowest `2 * half` bits those in the half that set bit number `n` of these lies in, moved to the low end, with the
+// bit's number there, and the place that the half began at.
+#[inline(always)]
+fn half_of(word: u64, n: usize, half: usize) -> (u64, usize, usize)
+    requires few { half ≤ 32 }
+    requires within { n < count_below (word_bits word) (2 * half) }
+    ensures within { result.1 < count_below (word_bits result.0) half }
+    ensures place { (p : ℕ) → p < half → IsPlaceOf result.0 result.1 p → IsPlaceOf word n (result.2 + p) }
+    ensures few { result.2 ≤ half }
+{
+    let below = (word & ((1 << half) - 1)).count_ones() as usize;
+    if n < below {
+        (word, n, 0)
+    } else {
+        (word >> half, n - below, half)
     }
-    word.trailing_zeros() as usize
 }
 
 // How many of the 64 bits from bit `position` on come before the first that is `value`.

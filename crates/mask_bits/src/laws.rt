@@ -13,7 +13,7 @@ pub use boolean::{
     and_is_free_of_order, and_not_is_and_of_not, and_or_absorb, and_or_distribute, complements,
     or_is_free_of_order,
 };
-pub use indices::{count_below_position, positions_determine_list};
+pub use indices::{count_below_position, position_of_count_below, positions_determine_list};
 pub use nullable::{
     kleene_by_parts, kleene_de_morgan, kleene_filter_keeps_no_null, kleene_is_not_false_of_not,
     kleene_is_true, kleene_not_twice, kleene_row_by_row, kleene_without_nulls,

@@ -41,6 +41,7 @@ mod nullable;
 pub mod processor;
 #[doc(hidden)]
 pub mod push_rows;
+mod ranks;
 mod read_word;
 #[doc(hidden)]
 pub mod room;
@@ -69,5 +70,6 @@ pub use buffer::BitBuffer;
 pub use buffer_mut::BitBufferMut;
 pub use chunks::{BitChunks, PaddedWords, Words};
 pub use nullable::NullableBitBuffer;
+pub use ranks::Ranks;
 pub use set_indices::SetIndices;
 pub use set_slices::SetSlices;

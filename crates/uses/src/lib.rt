@@ -6,6 +6,7 @@ pub mod lent_lists;
 pub mod nulls;
 pub mod own_deposit;
 pub mod planner;
+pub mod renumbering;
 pub mod row_groups;
 #[cfg(test)]
 mod tests;

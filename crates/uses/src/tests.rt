@@ -2,9 +2,9 @@
 // comes last.
 use crate::nulls::{self, Row};
 use crate::own_deposit::{InTurn, rank_intersection_by};
-use crate::{column_filter, lent_lists, planner, row_groups, validity};
+use crate::{column_filter, lent_lists, planner, renumbering, row_groups, validity};
 use bytes::Bytes;
-use mask_bits::BitBuffer;
+use mask_bits::{BitBuffer, Ranks};
 use std::alloc::AllocError;
 use std::fmt::Display;
 use std::process::Abort;
@@ -327,4 +327,24 @@ fn ticks(rt: &impl Host, buffer: &BitBuffer, mask: u64) {
 fn steps_are_counted(rt: HostRuntime) {
     let set = found(&rt, BitBuffer::new_set(rt.alloc(), 130));
     ticks(&rt, &set, 0b11010);
+}
+
+// ---- rows of a file without those that are deleted
+
+fn rows_are(rt: &impl Host, numbers: &[usize], want: Option<&[usize]>) {
+    let rows = renumbering::rows_of(rt.alloc(), bits(rt, "10011101"), numbers);
+    assert!(rt; found(rt, rows).as_deref() == want);
+}
+
+fn number_is(rt: &impl Host, kept: &Ranks, row: usize, want: Option<usize>) {
+    assert!(rt; row < kept.len() && renumbering::number_of(kept, row) == want);
+}
+
+#[test]
+fn rows_that_are_renumbered(rt: HostRuntime) {
+    rows_are(&rt, &[4, 0, 2, 2], Some(&[7, 0, 4, 4]));
+    rows_are(&rt, &[0, 5], None);
+    let kept = found(&rt, Ranks::from_buffer(rt.alloc(), bits(&rt, "10011101")));
+    number_is(&rt, &kept, 7, Some(4));
+    number_is(&rt, &kept, 6, None);
 }

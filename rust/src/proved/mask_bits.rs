@@ -36,6 +36,7 @@ mod nullable;
 pub(crate) use crate::native::processor;
 #[doc(hidden)]
 pub mod push_rows;
+mod ranks;
 mod read_word;
 #[doc(hidden)]
 pub mod room;
@@ -62,5 +63,6 @@ pub use buffer::BitBuffer;
 pub use buffer_mut::BitBufferMut;
 pub use chunks::{BitChunks, PaddedWords, Words};
 pub use nullable::NullableBitBuffer;
+pub use ranks::Ranks;
 pub use set_indices::SetIndices;
 pub use set_slices::SetSlices;

@@ -6,6 +6,7 @@ use crate::fault::Fault;
 use crate::host::{AllocGlobal, Input, Print};
 use crate::lines::{Found, calls, there};
 use crate::operands::Operands;
+use crate::ranked::{Asked, write_asked};
 use crate::tell::{Tell, tell_fault};
 use crate::text::Text;
 use crate::walks;
@@ -145,7 +146,7 @@ fn bits(name: &str, o: &mut Operands, text: &mut Text) -> Found {
 
 // Of one buffer and numbers.
 fn bit_parts(name: &str, o: &mut Operands, text: &mut Text) -> Found {
-    calls! { name, o, text, else bit_pairs(name, o, text);
+    calls! { name, o, text, else ranked(name, o, text);
         "bits.clone" (x) => walks::write_made(text, x.clone()),
         "bits.not" (x) => x.try_not(),
         "bits.indices" (x) => x.try_indices(x.true_count()),
@@ -161,6 +162,17 @@ fn bit_parts(name: &str, o: &mut Operands, text: &mut Text) -> Found {
             => RankBits::new(x).read(m),
         "bits.count_range" (x m n) [m <= n && n <= x.len(), "a range within the buffer"] => x.count_range(m, n),
         "bits.first_from" (x m n) [m <= x.len(), "an index within the buffer"] => x.first_from(m, n == 1),
+    }
+}
+
+// Of one buffer's true values, counted once.
+fn ranked(name: &str, o: &mut Operands, text: &mut Text) -> Found {
+    calls! { name, o, text, else bit_pairs(name, o, text);
+        "ranks.held" (x) => write_asked(text, x, Asked::Held),
+        "ranks.select" (x m) => write_asked(text, x, Asked::Select(m)),
+        // each number below this one
+        "ranks.select_each" (x m) => write_asked(text, x, Asked::SelectEach(m)),
+        "ranks.count_below_each" (x) => write_asked(text, x, Asked::CountBelowEach),
     }
 }
 

@@ -17,6 +17,7 @@ mod mask_word;
 mod nullable;
 mod operands;
 mod packed;
+mod ranked;
 mod refused;
 mod rows;
 mod tell;

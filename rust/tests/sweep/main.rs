@@ -7,6 +7,7 @@ mod makes;
 mod nullables;
 mod pairs;
 mod ranges;
+mod ranks;
 mod reads;
 mod refusals;
 mod selects;

@@ -58,6 +58,7 @@ fn call_that_aborts(name: &str) {
                 + BitmapBuf::from(Mask::new_true(usize::MAX)).len()
         }
         "to buffer" => BitBuffer::from(rows).len(),
+        "ranks" => rows.ranks().len(),
         "reserve" => {
             let mut longer = BitmapBuf::all_true(9);
             longer.reserve(usize::MAX);
@@ -153,6 +154,7 @@ fn what_aborts_is_what_the_page_says() {
         "resize",
         "to mask",
         "to buffer",
+        "ranks",
         "reserve",
         "to_indices",
         "selection",

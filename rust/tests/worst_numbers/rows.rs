@@ -105,3 +105,15 @@ fn first_values_and_places() {
     many.drop_first(usize::MAX);
     assert_eq!(many.count(), 0);
 }
+
+#[test]
+fn ranks_past_the_last() {
+    let _alone = limit();
+    let ranks = BitmapBuf::all_true(MANY).as_bitmap().ranks();
+    for n in [MANY, 1 << 32, 1 << 62, usize::MAX] {
+        assert_eq!(within(LITTLE, || ranks.select(n)), None);
+    }
+    assert_eq!((ranks.select(MANY - 1), ranks.count_below(MANY)), (Some(MANY - 1), MANY));
+    let none = Bitmap::new(&[], 0, 0).unwrap().ranks();
+    assert_eq!((none.select(0), none.select(usize::MAX), none.count_below(0)), (None, None, 0));
+}

@@ -1,5 +1,6 @@
 -- Lemmas on the places of true values.
 pub mod AscendingLemmas
+pub mod HalfLemmas
 pub mod IndexLemmas
 pub mod PlaceLemmas
 pub mod PushLemmas

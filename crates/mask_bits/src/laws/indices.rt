@@ -2,7 +2,7 @@
 
 #![tactic(auto, using(crate::proofs::LawRules::laws))]
 
-ghost use Rattle.mask_bits.specs.Laws.Indices.{PositionsDetermineList, CountBelowPosition};
+ghost use Rattle.mask_bits.specs.Laws.Indices.{PositionsDetermineList, CountBelowPosition, PositionOfCountBelow};
 
 /// Lists of one length with the same true indices are the same.
 pub fn positions_determine_list()
@@ -13,4 +13,10 @@ pub fn positions_determine_list()
 #[tactic(auto, using(crate::proofs::Lists::LimitLemmas::count_below_position))]
 pub fn count_below_position()
     ensures number { CountBelowPosition }
+{}
+
+/// A true value's index is the one whose number is the count below it.
+#[tactic(auto, using(crate::proofs::Lists::Places::HalfLemmas::position_of_count_below))]
+pub fn position_of_count_below()
+    ensures index { PositionOfCountBelow }
 {}

@@ -368,7 +368,7 @@ impl BitBuffer {
     }
 
     // The bytes, with what readers of them need to know.
-    #[inline]
+    #[inline(always)]
     pub(crate) fn bits(&self) -> &[u8] {
         self.inner().as_slice()
     }

@@ -2,6 +2,7 @@
 //! The words of a list, and searches by words.
 
 use crate::kit::prelude::*;
+use crate::proved::mask_bits::byte_places::place_in_byte;
 use crate::proved::mask_bits::counts::count_bits;
 use crate::proved::mask_bits::read_word::{Bits, ReadWord, Unaligned};
 use crate::proved::mask_bits::words::{started_words, word_at};
@@ -155,7 +156,13 @@ impl<'a> BitChunks<'a> {
     #[inline(always)]
     fn select_any(&self, n: usize) -> Option<usize> {
         let (first, rest) = self.passed_blocks(n);
-        let mut left = rest;
+        self.select_from(first, rest)
+    }
+
+    // The index of true value number `n` among those from word `first` on.
+    #[inline(always)]
+    pub(crate) fn select_from(&self, first: usize, n: usize) -> Option<usize> {
+        let mut left = n;
         for i in first..self.started_words() {
             let word = self.started_word_proved(i);
             let ones = word.count_ones() as usize;
@@ -286,14 +293,21 @@ fn remainder(bytes: &[u8], offset: usize, len: usize) -> u64 {
     word_at(bytes, offset + (len - rest)) & ((1 << rest) - 1)
 }
 
-// The index of set bit number `n`, counted from 0.
+// The index of set bit number `n`, counted from 0: its byte is found by halves, and a table has its place there.
 #[inline(always)]
 fn index_in_word(word: u64, n: usize) -> usize {
-    let mut word = word;
-    for _ in 0..n {
-        word &= word - 1;
-    }
-    word.trailing_zeros() as usize
+    let (half, left, first) = half_of(word, n, 32);
+    let (quarter, left, second) = half_of(half, left, 16);
+    let (byte, left, third) = half_of(quarter, left, 8);
+    first + second + third + place_in_byte((byte & 0xFF) as usize, left)
+}
+
+// Of the lowest `2 * half` bits those in the half that set bit number `n` of these lies in, moved to the low end, with the
+// bit's number there, and the place that the half began at.
+#[inline(always)]
+fn half_of(word: u64, n: usize, half: usize) -> (u64, usize, usize) {
+    let below = (word & ((1 << half) - 1)).count_ones() as usize;
+    if n < below { (word, n, 0) } else { (word >> half, n - below, half) }
 }
 
 // How many of the 64 bits from bit `position` on come before the first that is `value`.

@@ -2,7 +2,7 @@
 
 use super::{Row, bits, done, ok, thirds};
 use row_mask::intersect_by_rank::RankBits;
-use row_mask::{BitBuffer, BitBufferMut, BitChunks, Bytes, NullableBitBuffer};
+use row_mask::{BitBuffer, BitBufferMut, BitChunks, Bytes, NullableBitBuffer, Ranks};
 
 fn bytes() -> Bytes {
     Bytes::from(vec![0xA5; 2])
@@ -95,6 +95,22 @@ pub const ROWS: &[Row] = &[
         "`or_kleene` needs `self.len() == other.len()`: ",
         &[(|| ok(nullable(2, Some(2)).try_or_kleene(&nullable(3, None))), "2 is not 3")],
         &[|| ok(nullable(2, None).try_or_kleene(&nullable(2, Some(2))))],
+    ),
+    (
+        "Ranks::count_below",
+        "",
+        "`count_below` needs a number up to that of all values: ",
+        &[
+            (|| done(Ranks::new(thirds(600)).count_below(601)), "601 is not at most 600"),
+            (
+                || done(Ranks::new(thirds(0)).count_below(MAX)),
+                "18446744073709551615 is not at most 0",
+            ),
+        ],
+        &[
+            || done(Ranks::new(thirds(600)).count_below(600)),
+            || done(Ranks::new(thirds(0)).count_below(0)),
+        ],
     ),
     (
         "BitBuffer::try_from_vec",

@@ -22,7 +22,7 @@ slice_get-left : (xs ys : List ℕ) (i : ℕ) → i < length xs → slice_get (x
 slice_get-left [] ys i h = absurd (omega arith)
 slice_get-left (v ∷ xs) ys i h = grind (arith, slice_get-left xs)
 
-slice_get-right : (xs ys : List ℕ) (i j : ℕ) → i ≡ length xs + j → slice_get (xs ++ ys) i ≡ slice_get ys j
+pub slice_get-right : (xs ys : List ℕ) (i j : ℕ) → i ≡ length xs + j → slice_get (xs ++ ys) i ≡ slice_get ys j
 slice_get-right [] ys i j e = let same : i ≡ j = omega arith in ap (slice_get ys) same
 slice_get-right (v ∷ xs) ys i j e = grind (arith, slice_get-right xs)
 
@@ -134,7 +134,5 @@ none_more m i read none p from = grind (arith, none p, bit-padded m i 0 (p - 64 
 -- the true values up to a place, and those of the part from there
 pub count-part_further : (m : List Bool) (s n : ℕ) → count (take (s + n) m) ≡ count (take s m) + count (slice_range m s (s + n))
 count-part_further m s n = grind (arith, take-add, count-append)
-
-pub ruleset left_in_word = (some_left, left-more, left-first, low-within)
 
 pub ruleset places_of_words = (places-word_more, count-word_more, positions-lowest)
