@@ -24,6 +24,7 @@ mod ranks;
 mod row;
 mod row_index;
 mod selection;
+mod sorted;
 mod stand_ins;
 mod strings;
 mod take;
@@ -48,6 +49,7 @@ pub use proved::vortex_mask::{
 pub use row::Row;
 pub use row_index::RowIndex;
 pub use selection::Selection;
+pub use sorted::{intersect_sorted, intersect_sorted_into};
 pub use strings::{Offset, Strings};
 pub use take::{take, take_append, take_into};
 pub use walks::{Indices, Runs, Values};

@@ -4,6 +4,8 @@ unfoldable pub use Rattle.mask_bits.specs.Buffer.{values}
 pub use Rattle.mask_bits.specs.Buffer.{IsWithinBytes, Packed, backing_bit, same_values}
 pub use Rattle.mask_bits.specs.BufferMut.{AreClearFrom, IsRoom, IsWrittenBehind}
 pub use Rattle.mask_bits.specs.ChosenBits.{AreChosenSoFar, values_so_far}
+pub use Rattle.mask_bits.specs.CommonIndices.{AreSplit, common}
+pub use Rattle.mask_bits.specs.Merges.{GoesOn, IsAt, IsFound, comes_to}
 pub use Rattle.mask_bits.specs.Combine.{AreCombined, IsCombinedBetween, IsNoneTrue}
 unfoldable pub use Rattle.mask_bits.specs.Extract.{closed_up, gathered}
 pub use Rattle.mask_bits.specs.Extract.{Extracts, two_words}
@@ -32,6 +34,15 @@ pub use Rattle.std.proofs.Common.{lt_of_le_of_lt, lt_of_lt_of_le, ltb, ltb→lt,
 pub use Rattle.std.proofs.Common.{replicate, rules, set, shr-shr, slice_get, slice_range, subst, suc, sym, take, take-add, take_all, true, vec_capacity, vec_len, w16, w32, w64, w8, zero, zero-add, zip, ℕ, ◌%◌, ◌&&◌, ◌*◌, ◌++◌, ◌+◌, ◌-◌}
 pub use Rattle.std.proofs.Common.{◌/◌, ◌<◌, ◌^◌, ◌||◌, ◌↔◌, ◌∙◌, ◌∷◌, ◌≡◌, ◌≢◌, ◌≤◌, ◌⊎◌}
 pub use Rattle.std.proofs.Math.Arith.{digits_lt}
+pub use Rattle.std.proofs.lemmas.List.Kept.{AllPairs-from_increasing}
+pub use Rattle.std.proofs.lemmas.Bool.{cases_order, lt-leb}
+pub use Rattle.std.specs.List.{copy_within}
+pub use Rattle.std.proofs.lemmas.List.{drop-map, drop-set-lt, map-append, map-set, set-get_or, take-map, take-set}
+pub use Rattle.std.proofs.lemmas.List.Elements.{filter-append, filter_more}
+pub use Rattle.std.proofs.lemmas.List.Folds.{list_any-append, list_any-from_Any, list_any_none}
+pub use Rattle.std.proofs.Math.Seq.{paste}
+pub use Rattle.std.proofs.lemmas.List.Edits.{take-paste}
+pub use Rattle.std.proofs.lemmas.Grind.{take-set_at}
 pub use Rattle.std.proofs.Math.Bool.{and-not_self, and-or_distrib_left, and_assoc, and_comm, beq, or-and_distrib_left, or-false, or-not_self, or_assoc, or_comm}
 pub use Rattle.std.proofs.Math.Nat.{add-mul-mod_self_left, div-eq_of_lt, one-le-pow, pow-zero}
 pub use Rattle.std.proofs.Math.Pow.{pow-lt}

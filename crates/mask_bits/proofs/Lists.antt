@@ -2,6 +2,7 @@
 pub mod BooleanLemmas
 pub mod BooleanValueLemmas
 pub mod ChooseLemmas
+pub mod CommonLemmas
 pub mod CountLemmas
 pub mod GroupLemmas
 pub mod LawLemmas

@@ -3,11 +3,13 @@ pub mod Buffer
 pub mod BufferMut
 pub mod ChosenBits
 pub mod Combine
+pub mod CommonIndices
 pub mod Extract
 pub mod Lanes
 pub mod Kleene
 pub mod Laws
 pub mod Lists
+pub mod Merges
 pub mod Nullable
 pub mod NullableBuffer
 pub mod Number

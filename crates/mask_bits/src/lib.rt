@@ -24,6 +24,8 @@ mod chunks;
 #[doc(hidden)]
 pub mod combine;
 #[doc(hidden)]
+pub mod common_indices;
+#[doc(hidden)]
 pub mod compare;
 #[doc(hidden)]
 pub mod counts;

@@ -9,7 +9,7 @@ ghost use Rattle.mask_bits.specs.Buffer.{IsWithinBytes, values};
 ghost use Rattle.mask_bits.specs.Positions.{at_indices, count, count_below, positions, rank_intersection, true_at};
 ghost use Rattle.mask_bits.specs.Words.{padded_part, padded_remainder, started_words, word_bits};
 ghost use Rattle.mask_c.specs.Bitmap.{AreClearBehind};
-ghost use Rattle.vortex_mask.specs.Ranks.{AreSplit};
+ghost use Rattle.mask_bits.specs.CommonIndices.{AreSplit};
 
 use crate::last::put_remainder;
 use crate::pointwise::row_mask_copy;

@@ -72,17 +72,17 @@ pub use Rattle.vortex_mask.specs.Bytes.{EachLane, byte_of_two}
 pub use Rattle.vortex_mask.specs.Caches.{caches, where_mixed}
 pub use Rattle.vortex_mask.specs.Concat.{AreAll, Joins, lists_of, total_len}
 pub use Rattle.vortex_mask.specs.Deposit.{Deposits, selected}
-pub use Rattle.vortex_mask.specs.Faults.{bad_range, common, first_pair_from, first_past, first_repeated, first_unsorted, index_fault, neighbor_fault, neighbors_fault_from, out_of_bounds, range_fault}
+pub use Rattle.vortex_mask.specs.Faults.{bad_range, first_pair_from, first_past, first_repeated, first_unsorted, index_fault, neighbor_fault, neighbors_fault_from, out_of_bounds, range_fault}
 pub use Rattle.vortex_mask.specs.Fraction.{share, share_by_variant}
 pub use Rattle.vortex_mask.specs.Iter.{indices_left, ranges_left, values_left}
 pub use Rattle.vortex_mask.specs.Lend.{IfLent, ReachesShare}
 pub use Rattle.vortex_mask.specs.Mask.{IsUniform, Variant, all_false, all_true, contents, fitting_variant, mixed, same_truth, truth, variant, variant_and, variant_not, variant_of_no_part, variant_or}
 pub use Rattle.vortex_mask.specs.MaskValues.{AreOf, Contents, no_caches, only_indices, only_ranges, with_indices, with_ranges}
-pub use Rattle.vortex_mask.specs.Merges.{GoesOn, IsFound, IsUnderWay, comes_to}
+pub use Rattle.mask_bits.specs.CommonIndices.{AreSplit, common}
 pub use Rattle.vortex_mask.specs.Path.{AreNarrowingSteps, AreStepsOf, is_deposited_by_loop, narrowed_caches, path, path_caches, path_of}
 pub use Rattle.vortex_mask.specs.Ranges.{rows_held}
 unfoldable pub use Rattle.vortex_mask.specs.Ranks.{first_bits}
-pub use Rattle.vortex_mask.specs.Ranks.{AreBitsFrom, AreRanks, AreSplit, HasRead, HoldsRanks, IsGathered, is_listed, narrowed_by}
+pub use Rattle.vortex_mask.specs.Ranks.{AreBitsFrom, AreRanks, HasRead, HoldsRanks, IsGathered, is_listed, narrowed_by}
 pub use Rattle.vortex_mask.specs.SetRanges.{AreSet}
 pub use Rattle.vortex_mask.specs.StackFold.{first_mixed}
 pub use Rattle.vortex_mask.specs.Steps.{IsDeposited, StepCounts, driven_steps, no_steps, word_steps}

@@ -1,7 +1,6 @@
 -- Lemmas on masks, on what they are made of and on their faults.
 pub mod BitopLemmas
 pub mod CachedLemmas
-pub mod CommonLemmas
 pub mod ConcatLemmas
 pub mod ExcludedLemmas
 pub mod FaultLemmas

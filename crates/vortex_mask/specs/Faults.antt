@@ -31,10 +31,6 @@ out_of_bounds len xs = option_map (λ x. IndexOutOfBounds x len) (first_past len
 abbrev pub index_fault : ℕ → List ℕ → Option MaskError
 index_fault len xs = option_or (option_map (λ at. UnsortedIndices at) (first_unsorted xs)) (option_or (option_map (λ at. RepeatedIndex at) (first_repeated xs)) (out_of_bounds len xs))
 
--- those of the one list that the other has too
-abbrev pub common : List ℕ → List ℕ → List ℕ
-common xs ys = filter (λ x. list_any (nat_eq x) ys) xs
-
 -- the first range that is empty or passes the length
 abbrev pub bad_range : ℕ → List (ℕ × ℕ) → Option MaskError
 bad_range len rs = option_map (λ at. BadRange at) (position (λ r. not (nat_lt r.0 r.1 && nat_le r.1 len)) rs)

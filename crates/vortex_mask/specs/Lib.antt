@@ -10,7 +10,6 @@ pub mod Iter
 pub mod Lend
 pub mod Mask
 pub mod MaskValues
-pub mod Merges
 pub mod Path
 pub mod Ranges
 pub mod Ranks

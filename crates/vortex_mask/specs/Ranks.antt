@@ -4,6 +4,7 @@ use Rattle.std.specs.Iterator.Runs.{Run}
 use Rattle.std.specs.List.{list_any, range_with_len}
 use Rattle.std.specs.List.Sorted.{IsStrictlyIncreasing}
 use Rattle.mask_bits.specs.Buffer.{backing_bit}
+use Rattle.mask_bits.specs.CommonIndices.{AreSplit}
 use Rattle.mask_bits.specs.Positions.{count, count_below, rank_intersection}
 use Rattle.mask_bits.specs.Words.{word_bits, padded_part, started_words}
 
@@ -14,12 +15,6 @@ AreRanks top n p = IsStrictlyIncreasing p.items × All (λ k. k < top) p.items �
 -- where a run of calls went on to the end, each number that it gave is above the one before it
 abbrev pub IsAscending : {S : Type 0} {steps : S → Option ℕ → S → Type 0} → Run steps → Type 0
 IsAscending p = p.whole ≡ true → IsStrictlyIncreasing p.items
-
--- the first n of these indices are those below `limit`
-pub record AreSplit (indices : List ℕ) (n limit : ℕ) : Type 0 where
-  pub within : n ≤ length indices
-  pub before : (k : ℕ) → k < n → slice_index indices k < limit
-  pub after : (k : ℕ) → n ≤ k → k < length indices → limit ≤ slice_index indices k
 
 -- the first `next` of these indices are below `end`, the others from `at` on, and of the first ones those from `at` on are set bits
 pub record IsGathered (indices : List ℕ) (at end next bits : ℕ) : Type 0 where

@@ -6,7 +6,6 @@ mod cached;
 // rust: visible
 mod choose;
 mod choose_values;
-mod common_indices;
 mod concat;
 mod convert;
 mod error;

@@ -11,6 +11,7 @@ mod ranks;
 mod reads;
 mod refusals;
 mod selects;
+mod sorted;
 mod takes;
 mod walks;
 mod writes;

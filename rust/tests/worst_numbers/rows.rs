@@ -117,3 +117,27 @@ fn ranks_past_the_last() {
     let none = Bitmap::new(&[], 0, 0).unwrap().ranks();
     assert_eq!((none.select(0), none.select(usize::MAX), none.count_below(0)), (None, None, 0));
 }
+
+#[test]
+fn indices_in_common_of_any_lists() {
+    let most = [7, 1 << 32, usize::MAX];
+    assert_eq!(
+        row_mask::intersect_sorted(&most, &[0, 1 << 32, usize::MAX]),
+        Ok(most[1..].to_vec())
+    );
+    assert_eq!(row_mask::intersect_sorted(&most, &[]), Ok(vec![]));
+    let mut out = [9; 3];
+    assert_eq!(
+        refused(|| row_mask::intersect_sorted_into(&most, &most, &mut out[..2])),
+        small(2, 3)
+    );
+    assert_eq!(out, [9; 3]);
+    // (of lists that don't ascend there are no more than the shorter one has)
+    let falling: Vec<usize> = (0..500).rev().chain([usize::MAX, 0, 3]).collect();
+    for list in [&falling[..], &falling[..20], &[3; 100], &[usize::MAX, 0]] {
+        for other in [&falling[..], &falling[490..], &[0; 40]] {
+            let found = row_mask::intersect_sorted(list, other).unwrap().len();
+            assert!(found <= list.len().min(other.len()));
+        }
+    }
+}

@@ -1,16 +1,8 @@
 -- Ascending lists of indices, also as the true indices of masks.
 use Rattle.vortex_mask.proofs.Common.{common_steps, ◌≡◌, ℕ, suc, ◌+◌, ◌-◌, ◌^◌, ◌<◌, ◌≤◌, ◌||◌, Bool, false, nat_eq, List, [], ◌∷◌, length, get_or, take, refl, sym, arith, list_any, cases_eq, cases_lt, eq-eqb, ne_eqb, get_or-take, length-map, length-take, AllPairs-from_increasing, bit_at-pow_same, bit_at-pow_other, IsStrictlyIncreasing, positions, count, true_at, at_indices, rank_intersection, word_bits, positions-true_at, positions-ascending, positions-full, positions-all_false, positions-rank_intersection, length-true_at, get_or-word_bits, All}
-
 -- ---- ascending numbers
 
--- a number that none is
-pub none-is : (p : ℕ) (xs : List ℕ) → ((k : ℕ) → k < length xs → get_or xs k 0 ≡ p → ⊥) → list_any (nat_eq p) xs ≡ false
-none-is p [] apart = refl
-none-is p (x ∷ xs) apart = grind (arith, common_steps, ne_eqb p x (λ same. apart 0 (omega arith) (sym same)), none-is p xs (λ k h. apart (suc k) (omega arith)))
-
--- a later one is no less
-pub rises_to : (xs : List ℕ) (i k : ℕ) → IsStrictlyIncreasing xs → i ≤ k → k < length xs → get_or xs i 0 ≤ get_or xs k 0
-rises_to xs i k ascending h inside = grind (arith, cases_lt, AllPairs-from_increasing)
+pub use Rattle.mask_bits.proofs.Lists.Places.AscendingLemmas.{none-is, rises_to}
 
 -- the first numbers of ascending ones ascend
 pub ascending-take : (n : ℕ) (xs : List ℕ) → IsStrictlyIncreasing xs → IsStrictlyIncreasing (take n xs)

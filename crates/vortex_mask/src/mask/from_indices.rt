@@ -1,11 +1,13 @@
 //! Masks from indices, and what is wrong with a list of them.
 
 ghost use Rattle.std.specs.Prelude.{◌≡◌, ◌*◌, ◌<◌, ◌≤◌, ◌⊎◌, IfOk, IfErr, Some, None, Ok, Err, length, vec_len, alloc_error, ℕ, List, true, false};
+ghost use Rattle.std.specs.List.Sorted.{IsStrictlyIncreasing};
 ghost use Rattle.std.specs.Iterator.{IsFinite, Drains};
 ghost use Rattle.std.specs.Iterator.Runs.{WholeRun, EachRunFrom};
 ghost use Rattle.mask_bits.specs.Bitmap.{bitmap};
 ghost use Rattle.mask_bits.specs.Positions.{positions, true_at, repeated};
-ghost use Rattle.vortex_mask.specs.Faults.{index_fault, first_unsorted, first_repeated, out_of_bounds, first_past, common};
+ghost use Rattle.vortex_mask.specs.Faults.{index_fault, first_unsorted, first_repeated, out_of_bounds, first_past};
+ghost use Rattle.mask_bits.specs.CommonIndices.{common};
 ghost use Rattle.vortex_mask.specs.Caches.{caches, where_mixed};
 ghost use Rattle.vortex_mask.specs.Mask.{truth, variant, fitting_variant, all_false, all_true};
 ghost use Rattle.vortex_mask.specs.MaskValues.{only_indices, no_caches};
@@ -13,9 +15,9 @@ ghost use Rattle.mask_bits.specs.Lists.{not_of};
 ghost use Rattle.vortex_mask.specs.Ranks.{IsAscending};
 
 use crate::conditions::ascends;
-use crate::mask::common_indices::common;
 use crate::mask::{Mask, MaskError};
 use mask_bits::byte_list::ByteList;
+use mask_bits::common_indices::keep_common;
 use mask_bits::write_bits::{ones, unset_value};
 use mask_bits::{BitBuffer, BitBufferMut};
 use std::alloc::Global;
@@ -300,4 +302,31 @@ impl Mask {
         indices.shrink_to_fit();
         Mask::of_indices(alloc, len, indices)
     }
+}
+
+// The indices that both lists have, in the shorter one's room.
+#[tactic(auto, using(mask_bits::proofs::Lists::CommonLemmas::common_either_way))]
+fn common(lhs: Vec<usize>, rhs: Vec<usize>) -> Vec<usize>
+    requires lhs { IsStrictlyIncreasing lhs.items }
+    requires rhs { IsStrictlyIncreasing rhs.items }
+    ensures { result.items ≡ common lhs.items rhs.items }
+{
+    if lhs.len() <= rhs.len() {
+        common_of(lhs, &rhs)
+    } else {
+        common_of(rhs, &lhs)
+    }
+}
+
+// Those of a list that another one has too, in its own room.
+#[tactic(auto, using(mask_bits::proofs::Lists::Words::BlockLemmas::indices_themselves))]
+fn common_of(list: Vec<usize>, other: &[usize]) -> Vec<usize>
+    requires list { IsStrictlyIncreasing list.items }
+    requires other { IsStrictlyIncreasing other.now }
+    ensures { result.items ≡ common list.items other.now }
+{
+    let mut list = list;
+    let found = keep_common(&mut list, other);
+    list.truncate(found);
+    list
 }

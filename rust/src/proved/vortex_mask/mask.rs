@@ -7,7 +7,6 @@ mod and_rows;
 mod cached;
 pub(crate) mod choose;
 mod choose_values;
-mod common_indices;
 mod concat;
 mod convert;
 mod error;

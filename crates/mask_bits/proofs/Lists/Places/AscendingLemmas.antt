@@ -1,5 +1,5 @@
 -- Ascending lists of places: the true places of a list are such a list, and each such list is one list's true places.
-use Rattle.mask_bits.proofs.Common.{◌≡◌, ℕ, zero, suc, ◌+◌, ◌<◌, ◌≤◌, ◌||◌, Bool, true, false, nat_eq, List, [], ◌∷◌, length, get_or, map, refl, sym, ap, subst, inl, inr, arith, list_any, range_with_len, IsStrictlyIncreasing, cases_eq, ne_eqb, indices_from, positions, true_at, repeated, get_or_default, All, eq-eqb}
+use Rattle.mask_bits.proofs.Common.{common_steps, cases_lt, AllPairs-from_increasing, ◌≡◌, ℕ, zero, suc, ◌+◌, ◌<◌, ◌≤◌, ◌||◌, Bool, true, false, nat_eq, List, [], ◌∷◌, length, get_or, map, refl, sym, ap, subst, inl, inr, arith, list_any, range_with_len, IsStrictlyIncreasing, cases_eq, ne_eqb, indices_from, positions, true_at, repeated, get_or_default, All, eq-eqb}
 use Rattle.mask_bits.proofs.Lists.CountLemmas.{all_true_from_count}
 use Rattle.mask_bits.proofs.Lists.RankLemmas.{length-true_at, map_range_same}
 
@@ -38,6 +38,17 @@ positions-rising m = Rising-indices_from 0 (length m) m (omega arith)
 
 pub positions-ascending : (m : List Bool) → IsStrictlyIncreasing (positions m)
 positions-ascending m = ascending-Rising 0 (length m) (positions m) (positions-rising m)
+
+-- ---- ascending numbers
+
+-- a number that none is
+pub none-is : (p : ℕ) (xs : List ℕ) → ((k : ℕ) → k < length xs → get_or xs k 0 ≡ p → ⊥) → list_any (nat_eq p) xs ≡ false
+none-is p [] apart = refl
+none-is p (x ∷ xs) apart = grind (arith, common_steps, ne_eqb p x (λ same. apart 0 (omega arith) (sym same)), none-is p xs (λ k h. apart (suc k) (omega arith)))
+
+-- a later one is no less
+pub rises_to : (xs : List ℕ) (i k : ℕ) → IsStrictlyIncreasing xs → i ≤ k → k < length xs → get_or xs i 0 ≤ get_or xs k 0
+rises_to xs i k ascending h inside = grind (arith, cases_lt, AllPairs-from_increasing)
 
 -- ---- the list that is true at such places
 

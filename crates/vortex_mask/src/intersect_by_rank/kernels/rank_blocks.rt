@@ -6,7 +6,8 @@ ghost use Rattle.std.specs.List.Sorted.{IsStrictlyIncreasing};
 ghost use Rattle.mask_bits.specs.Buffer.{backing_bit};
 ghost use Rattle.mask_bits.specs.Positions.{count};
 ghost use Rattle.mask_bits.specs.Words.{started_words};
-ghost use Rattle.vortex_mask.specs.Ranks.{AreSplit, CanHold, HoldsRanks, HoldsUpTo, is_listed, narrowed_by};
+ghost use Rattle.mask_bits.specs.CommonIndices.{AreSplit};
+ghost use Rattle.vortex_mask.specs.Ranks.{CanHold, HoldsRanks, HoldsUpTo, is_listed, narrowed_by};
 ghost use Rattle.vortex_mask.specs.Steps.{IsDeposited, no_steps};
 
 use crate::intersect_by_rank::count_steps::CountSteps;

@@ -2,7 +2,8 @@
 
 ghost use Rattle.std.specs.Prelude.{◌≡◌, ◌+◌, ◌-◌, ◌<◌, ◌≤◌, ◌^◌, ⊤};
 ghost use Rattle.std.specs.List.Sorted.{IsStrictlyIncreasing};
-ghost use Rattle.vortex_mask.specs.Ranks.{AreBitsFrom, AreSplit, IsGathered, is_listed};
+ghost use Rattle.mask_bits.specs.CommonIndices.{AreSplit};
+ghost use Rattle.vortex_mask.specs.Ranks.{AreBitsFrom, IsGathered, is_listed};
 
 use crate::intersect_by_rank::kernels::word_loop::RankWords;
 

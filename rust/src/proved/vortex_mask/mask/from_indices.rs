@@ -3,10 +3,10 @@
 
 use crate::kit::prelude::*;
 use crate::proved::mask_bits::byte_list::ByteList;
+use crate::proved::mask_bits::common_indices::keep_common;
 use crate::proved::mask_bits::write_bits::{ones, unset_value};
 use crate::proved::mask_bits::{BitBuffer, BitBufferMut};
 use crate::proved::vortex_mask::conditions::ascends;
-use crate::proved::vortex_mask::mask::common_indices::common;
 use crate::proved::vortex_mask::mask::{Mask, MaskError};
 
 /// Masks of true indices.
@@ -303,4 +303,19 @@ impl Mask {
         indices.shrink_or_stay();
         Mask::of_indices(len, indices)
     }
+}
+
+// The indices that both lists have, in the shorter one's room.
+#[inline]
+fn common(lhs: Vec<usize>, rhs: Vec<usize>) -> Vec<usize> {
+    if lhs.len() <= rhs.len() { common_of(lhs, &rhs) } else { common_of(rhs, &lhs) }
+}
+
+// Those of a list that another one has too, in its own room.
+#[inline]
+fn common_of(list: Vec<usize>, other: &[usize]) -> Vec<usize> {
+    let mut list = list;
+    let found = keep_common(&mut list, other);
+    list.truncate(found);
+    list
 }
