@@ -1,6 +1,8 @@
 //! The true values of a bitmap, read once for many columns.
 
-use crate::bitmap::room::{append_to, as_cells, as_places, first_of, list_of, made, reserve};
+use crate::bitmap::room::{
+    append_to, as_cells, as_items, as_places, first_of, list_of, made, reserve,
+};
 use crate::native::{OF_A_RUN, choose_several, copy_runs};
 use crate::proved::mask_bits::SetSlices;
 use crate::proved::mask_bits::room::Lent;
@@ -66,7 +68,9 @@ impl Kept {
         if len <= 64 && count < OF_A_RUN {
             return Ok(Kept::Word(bitmap.chunks().iter_padded().next().unwrap_or(0)));
         }
-        Ok(Kept::Indices(bitmap.to_indices_u32()?))
+        // SAFETY: each place is written, since so many values are true.
+        let indices = unsafe { list_of(count, |out| _ = bitmap.narrow_indices(0, as_items(out)))? };
+        Ok(Kept::Indices(indices))
     }
 }
 

@@ -233,7 +233,7 @@ impl<'a> Bitmap<'a> {
     }
 
     // Writes them, of as many values.
-    fn narrow_indices(self, from: usize, out: &mut [u32]) -> usize {
+    pub(crate) fn narrow_indices(self, from: usize, out: &mut [u32]) -> usize {
         mask_c::row_mask_next_indices_4(self.bytes(), self.offset(), self.len(), from, out)
     }
 

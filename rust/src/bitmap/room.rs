@@ -61,10 +61,17 @@ impl sealed::Room for BitmapBuf {
     }
 
     unsafe fn write(&mut self, len: usize, fill: impl FnOnce(&mut [u8])) -> Result<(), Error> {
-        self.make_room(len)?;
+        let bytes = mask_c::row_mask_room(len);
+        if bytes > self.bytes.capacity() {
+            self.make_room(len)?;
+        }
         self.clear();
-        // SAFETY: this is what is asked here too, and there is no last byte.
-        unsafe { self.add(len, fill) }
+        // SAFETY: each place is written before it is read, as is asked here too.
+        fill(unsafe { as_items(&mut self.bytes.spare_capacity_mut()[..bytes]) });
+        // SAFETY: so many have room, and were written.
+        unsafe { self.bytes.set_len(bytes) };
+        self.len = len;
+        Ok(())
     }
 
     fn keep(&mut self, len: usize) {

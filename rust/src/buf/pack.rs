@@ -74,7 +74,7 @@ fn pack_block(block: &mut Block, count: usize, out: &mut [u8]) {
 }
 
 levelled! {
-    where out.len() > FEW / 8;
+    to v4 where out.len() > FEW / 8;
     fn pack_words(values: &[u16], out: &mut [u8]) {
         for (out, values) in out.chunks_mut(8).zip(values.as_chunks::<64>().0) {
             put_lowest(word_of_whole(values, &mut |it| *it != 0), out);

@@ -113,7 +113,7 @@ operators! {
     };
 }
 
-// (a compiler finds the best instructions for these products, and to count ones)
+// (a compiler finds the best instructions for these products)
 operators! {
     u32x4:
     Mul mul Self, |a, b| {
@@ -136,9 +136,7 @@ methods! {
     u8x16: simd_eq -> LaneMask, |a, b| equal(a, b);
     u8x32: simd_eq -> LaneMask, |a, b| equal(a, b);
     u8x64: simd_eq -> LaneMask, |a, b| equal(a, b);
-    u8x16: count_ones -> u8x16, |bytes| {
-        Self::from_array(arrays::u8x16::from_array(Self(bytes).to_array()).count_ones().0).0
-    };
+    u8x16: count_ones -> u8x16, |bytes| ones(Self(bytes)).0;
     u8x16: swizzle_dyn -> u8x16, |lanes, indices| [swizzle(lanes[0], indices[0])];
     u8x8: swizzle_dyn -> u8x8, |lanes, indices| {
         // (there are zeros behind the eight lanes)
@@ -200,6 +198,24 @@ fn swizzle(lanes: __m128i, indices: __m128i) -> __m128i {
         }
     }
     (left[0] & equal(indices & u8x16::each(0xF0), u8x16::each(0))).0[0]
+}
+
+/// How many bits of each byte are set, by a table of those of four bits.
+#[cfg(target_feature = "ssse3")]
+#[inline(always)]
+fn ones(bytes: u8x16) -> u8x16 {
+    let [table] = u8x16::from_array([0, 1, 1, 2, 1, 2, 2, 3, 1, 2, 2, 3, 2, 3, 3, 4]).0;
+    let of = |fours: u8x16| u8x16([call!(_mm_shuffle_epi8(table, fours.0[0]))]);
+    of(bytes & u8x16::each(15)) + of(bytes >> Every(4))
+}
+
+/// The same with no instruction for it: of each two bits, of each four, and of all.
+#[cfg(not(target_feature = "ssse3"))]
+#[inline(always)]
+fn ones(bytes: u8x16) -> u8x16 {
+    let twos = bytes - ((bytes >> Every(1)) & u8x16::each(0x55));
+    let fours = (twos & u8x16::each(0x33)) + ((twos >> Every(2)) & u8x16::each(0x33));
+    (fours + (fours >> Every(4))) & u8x16::each(0x0F)
 }
 
 #[cfg(target_feature = "avx2")]
