@@ -150,6 +150,14 @@ pub count-parts : (f : Bool → Bool → Bool) (a b : List ℕ) (p q n : ℕ)
     ≡ count (combined f (bitmap a p n) (bitmap b q n))
 count-parts f a b p q n = grind (arith, count-append, bitmap-combined f a b p q (64 * (n / 64)) (n % 64))
 
+-- the same of lists that begin at some bit of some bytes
+pub count-whole_and_rest : (f : Bool → Bool → Bool) (a b from_a from_b : List ℕ) (low_a low_b p q n x y : ℕ) → from_a ≡ drop (p / 8) a → low_a ≡ p % 8 → from_b ≡ drop (q / 8) b → low_b ≡ q % 8
+    → x ≡ count (combined f (bitmap from_a low_a (64 * (n / 64))) (bitmap from_b low_b (64 * (n / 64))))
+    → y ≡ count (combined f (bitmap from_a (low_a + 64 * (n / 64)) (n % 64)) (bitmap from_b (low_b + 64 * (n / 64)) (n % 64)))
+    → x + y ≡ count (combined f (bitmap a p n) (bitmap b q n))
+count-whole_and_rest f a b from_a from_b low_a low_b p q n x y is_a is_low_a is_b is_low_b whole rest =
+    grind (arith, count-parts f from_a from_b low_a low_b n, bitmap-byte a from_a low_a p n is_a is_low_a, bitmap-byte b from_b low_b q n is_b is_low_b)
+
 -- what an operation on words has to show
 pub ruleset word_operations = (word_bits-combined, get_or-word_bits_and, get_or-word_bits_or, get_or-word_bits_xor, get_or-word_bits_not)
 

@@ -105,6 +105,7 @@ impl BitBuffer {
 }
 
 // A buffer of what `C` makes of two.
+// rust: inline
 #[tactic(auto, using(crate::proofs::CombineLemmas::combined_buffers))]
 pub(crate) fn combined_buffer<C: BitOp>(
     alloc: Global,

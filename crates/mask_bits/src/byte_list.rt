@@ -15,7 +15,7 @@ pub fn byte_list(list: Vec<u8>) -> ByteList
 }
 
 /// Room for so many bytes, which is written before it is read: what it holds has no meaning.
-pub(crate) fn unwritten(alloc: Global, count: usize) -> Result<ByteList, AllocError>
+pub fn unwritten(alloc: Global, count: usize) -> Result<ByteList, AllocError>
     ensures { IfOk result (λ b. vec_len b ≡ count) }
 {
     vec![in alloc; 0u8; count]

@@ -5,9 +5,10 @@ ghost use Rattle.mask_bits.specs.Bitmap.{bitmap};
 ghost use Rattle.mask_bits.specs.Buffer.{IsWithinBytes};
 ghost use Rattle.mask_bits.specs.Combine.{AreCombined, IsCombinedBetween};
 ghost use Rattle.mask_bits.specs.Lists.{combined, not_of};
+ghost use Rattle.mask_bits.specs.Positions.{count};
 ghost use Rattle.mask_bits.specs.Words.{word_bits, started_words};
 
-use crate::read_word::{Anywhere, Bits, ReadWord, Shifted, Unaligned, Whole};
+use crate::read_word::{Anywhere, Bits, Neighbors, ReadWord, Shifted, Unaligned, Whole};
 use crate::words::{set_word, started_words, word_at, word_of};
 
 /// An operation on truth values, done on 64 at once.
@@ -125,7 +126,9 @@ pub fn combine<C: BitOp>(
     let (a, b) = (Bits::new(a, a_offset), Bits::new(b, b_offset));
     let (whole, words) = (len / 64, started_words(len));
     extend_whole::<C>(a, b, whole, out);
-    extend::<C, Anywhere, Anywhere>(a, b, whole, words, out);
+    if whole < words {
+        extend_last::<C>(a, b, whole, out);
+    }
 }
 
 // Writes the first words.
@@ -141,10 +144,25 @@ fn extend_whole<C: BitOp>(a: Bits<'_>, b: Bits<'_>, words: usize, out: &mut [u8]
     if a.low == 0 && b.low == 0 {
         extend::<C, Whole, Whole>(a, b, 0, words, out);
     } else {
-        let inner = a.neighbors().min(b.neighbors()).min(words);
-        extend_inner::<C>(a, b, inner, out);
-        extend::<C, Unaligned, Unaligned>(a, b, inner, words, out);
+        extend_shifted::<C>(a, b, words, out);
     }
+}
+
+// Writes the first words of lists that do not both begin at a whole byte. Never inlined, so that the quicker case stays small.
+#[inline(never)]
+fn extend_shifted<C: BitOp>(a: Bits<'_>, b: Bits<'_>, words: usize, out: &mut [u8])
+    requires shifted { 0 < a.low + b.low }
+    requires a_within { IsWithinBytes a.bytes.now a.low (64 * words) }
+    requires b_within { IsWithinBytes b.bytes.now b.low (64 * words) }
+    requires few_a { a.low < 8 }
+    requires few_b { b.low < 8 }
+    requires room { 8 * words ≤ length out.old }
+    ensures { AreCombined C.of_bits a.entry.bytes.now a.entry.low b.entry.bytes.now b.entry.low
+        out.new (64 * words) }
+{
+    let inner = a.neighbors().min(b.neighbors()).min(words);
+    extend_inner::<C>(a, b, inner, out);
+    extend::<C, Unaligned, Unaligned>(a, b, inner, words, out);
 }
 
 // Writes words beside which there is another one. Each list is read in its own way, since a shift of one
@@ -190,7 +208,142 @@ fn extend<C: BitOp, A: ReadWord, B: ReadWord>(
     }
 }
 
-/// The same where the bits of `a` begin `bytes`: the list is written in their place. The bits of
+// Writes word `i`, which the bytes may have a part of, where those before are written. It isn't a turn of a loop, since what
+// the compiler would work out before that loop takes as long as some words.
+fn extend_last<C: BitOp>(a: Bits<'_>, b: Bits<'_>, i: usize, out: &mut [u8])
+    requires a_fits { a.low + 64 * i < 2 ^ 64 }
+    requires b_fits { b.low + 64 * i < 2 ^ 64 }
+    requires room { 8 * i + 8 ≤ length out.old }
+    requires before { AreCombined C.of_bits a.bytes.now a.low b.bytes.now b.low out.old (64 * i) }
+    ensures { AreCombined C.of_bits a.entry.bytes.now a.entry.low b.entry.bytes.now b.entry.low
+        out.new (64 * (i + 1)) }
+{
+    set_word(out, i, C::of(Anywhere::word(a, i), Anywhere::word(b, i)));
+}
+
+/// What [`combine`] does, and the answer is how many values are true. Those of a word are counted as it is written.
+// rust: level if len > 128
+#[tactic(auto, using(crate::proofs::CompareLemmas::counted))]
+pub fn combine_counted<C: BitOp>(
+    a: &[u8],
+    a_offset: usize,
+    b: &[u8],
+    b_offset: usize,
+    len: usize,
+    out: &mut [u8],
+) -> usize
+    requires a_within { IsWithinBytes a.now a_offset len }
+    requires b_within { IsWithinBytes b.now b_offset len }
+    requires room { 8 * started_words len ≤ length out.old }
+    ensures list { bitmap out.new 0 len
+        ≡ combined C.of_bits (bitmap a.now a_offset len) (bitmap b.now b_offset len) }
+    ensures counted { result ≡ count (bitmap out.new 0 len) }
+{
+    let (a, b) = (Bits::new(a, a_offset), Bits::new(b, b_offset));
+    let (whole, rest) = (len / 64, len % 64);
+    let ones = count_whole::<C>(a, b, whole, out);
+    if rest == 0 {
+        return ones;
+    }
+    ones + count_last::<C>(a, b, whole, rest, out)
+}
+
+// Writes the first words, and answers how many of their values are true.
+#[tactic(auto, using(crate::proofs::CompareLemmas::counted))]
+fn count_whole<C: BitOp>(a: Bits<'_>, b: Bits<'_>, words: usize, out: &mut [u8]) -> usize
+    requires a_within { IsWithinBytes a.bytes.now a.low (64 * words) }
+    requires b_within { IsWithinBytes b.bytes.now b.low (64 * words) }
+    requires few_a { a.low < 8 }
+    requires few_b { b.low < 8 }
+    requires room { 8 * words ≤ length out.old }
+    ensures list { AreCombined C.of_bits a.entry.bytes.now a.entry.low b.entry.bytes.now b.entry.low
+        out.new (64 * words) }
+    ensures counted { result ≡ count (combined C.of_bits
+        (bitmap a.entry.bytes.now a.entry.low (64 * words))
+        (bitmap b.entry.bytes.now b.entry.low (64 * words))) }
+{
+    if a.low == 0 && b.low == 0 {
+        return count_words::<C, Whole, Whole>(a, b, 0, words, 0, out);
+    }
+    count_shifted::<C>(a, b, words, out)
+}
+
+// The same of lists that do not both begin at a whole byte. Never inlined, so that the quicker case stays small.
+// rust: level
+#[inline(never)]
+#[tactic(auto, using(crate::proofs::CompareLemmas::counted))]
+fn count_shifted<C: BitOp>(a: Bits<'_>, b: Bits<'_>, words: usize, out: &mut [u8]) -> usize
+    requires a_within { IsWithinBytes a.bytes.now a.low (64 * words) }
+    requires b_within { IsWithinBytes b.bytes.now b.low (64 * words) }
+    requires few_a { a.low < 8 }
+    requires few_b { b.low < 8 }
+    requires room { 8 * words ≤ length out.old }
+    ensures list { AreCombined C.of_bits a.entry.bytes.now a.entry.low b.entry.bytes.now b.entry.low
+        out.new (64 * words) }
+    ensures counted { result ≡ count (combined C.of_bits
+        (bitmap a.entry.bytes.now a.entry.low (64 * words))
+        (bitmap b.entry.bytes.now b.entry.low (64 * words))) }
+{
+    let inner = a.neighbors().min(b.neighbors()).min(words);
+    let first = count_words::<C, Neighbors, Neighbors>(a, b, 0, inner, 0, out);
+    count_words::<C, Unaligned, Unaligned>(a, b, inner, words, first, out)
+}
+
+// Writes words `from` to `to`, where those before are written, and answers how many values of all are true, where `ones`
+// of those before are.
+fn count_words<C: BitOp, A: ReadWord, B: ReadWord>(
+    a: Bits<'_>,
+    b: Bits<'_>,
+    from: usize,
+    to: usize,
+    ones: usize,
+    out: &mut [u8],
+) -> usize
+    requires reads_a { (i : ℕ) → i < to → A.can_read a.bytes.now a.low i }
+    requires reads_b { (i : ℕ) → i < to → B.can_read b.bytes.now b.low i }
+    requires ordered { from ≤ to }
+    requires fits { 64 * to < 2 ^ 64 }
+    requires room { 8 * to ≤ length out.old }
+    requires before { AreCombined C.of_bits a.bytes.now a.low b.bytes.now b.low out.old (64 * from) }
+    requires counted { ones ≡ count (combined C.of_bits
+        (bitmap a.bytes.now a.low (64 * from))
+        (bitmap b.bytes.now b.low (64 * from))) }
+    ensures list { AreCombined C.of_bits a.entry.bytes.now a.entry.low b.entry.bytes.now b.entry.low
+        out.new (64 * to) }
+    ensures counted { result ≡ count (combined C.of_bits
+        (bitmap a.entry.bytes.now a.entry.low (64 * to))
+        (bitmap b.entry.bytes.now b.entry.low (64 * to))) }
+{
+    let mut count = ones;
+    for i in from..to {
+        let word = C::of(A::word(a, i), B::word(b, i));
+        set_word(out, i, word);
+        count += word.count_ones() as usize;
+    }
+    count
+}
+
+// Writes word `i`, of which fewer than 64 bits are values, where those before are written, and answers how many of these
+// values are true.
+#[tactic(auto, using(crate::proofs::CompareLemmas::counted_in_rest, std::proofs::lemmas::Nat::and_le_l))]
+fn count_last<C: BitOp>(a: Bits<'_>, b: Bits<'_>, i: usize, rest: usize, out: &mut [u8]) -> usize
+    requires few { rest < 64 }
+    requires a_fits { a.low + 64 * i < 2 ^ 64 }
+    requires b_fits { b.low + 64 * i < 2 ^ 64 }
+    requires room { 8 * i + 8 ≤ length out.old }
+    requires before { AreCombined C.of_bits a.bytes.now a.low b.bytes.now b.low out.old (64 * i) }
+    ensures list { AreCombined C.of_bits a.entry.bytes.now a.entry.low b.entry.bytes.now b.entry.low
+        out.new (64 * (i + 1)) }
+    ensures counted { result ≡ count (combined C.of_bits
+        (bitmap a.entry.bytes.now (a.entry.low + 64 * i) rest)
+        (bitmap b.entry.bytes.now (b.entry.low + 64 * i) rest)) }
+{
+    let word = C::of(Anywhere::word(a, i), Anywhere::word(b, i));
+    set_word(out, i, word);
+    (word & ((1 << rest) - 1)).count_ones() as usize
+}
+
+/// What [`combine`] does where the bits of `a` begin `bytes`: the list is written in their place. The bits of
 /// `bytes` past the list have no meaning.
 // rust: wide level if len > 128
 pub fn combine_in_place<C: BitOp>(bytes: &mut [u8], b: &[u8], b_offset: usize, len: usize)

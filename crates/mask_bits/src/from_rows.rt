@@ -1,6 +1,6 @@
 //! Buffers of what a test answers of each row.
 
-ghost use Rattle.std.specs.Prelude.{◌≡◌, ◌+◌, ◌*◌, ◌≤◌, ◌++◌, ℕ, List, IfOk, length, take};
+ghost use Rattle.std.specs.Prelude.{◌≡◌, ◌+◌, ◌*◌, ◌≤◌, ◌++◌, ℕ, List, IfOk, length, take, vec_len};
 ghost use Rattle.std.specs.Fn.{FnReturnsAt};
 ghost use Rattle.std.specs.Int.{bit_at};
 ghost use Rattle.mask_bits.specs.Bitmap.{bitmap};
@@ -11,7 +11,7 @@ ghost use Rattle.mask_bits.specs.Words.{word_bits, started_words};
 
 use crate::bools::{word_of_half_lanes, word_of_lanes, word_of_sixteen_lanes};
 use crate::buffer::BitBuffer;
-use crate::byte_list::unwritten;
+use crate::byte_list::{ByteList, unwritten};
 use crate::words::{set_word, started_words};
 use std::alloc::{AllocError, Global};
 use std::mem::size_of_val;
@@ -36,10 +36,28 @@ impl BitBuffer {
             (λ b. AreAnswers (FnReturnsAt F.Fn test) rows.now (values b)) }
         ensures list { IfOk result (λ b. AreAsComputed (F.post test) rows.now (values b)) }
     {
-        let mut bytes = unwritten(alloc, 8 * started_words(rows.len()))?;
-        put_answers(&mut bytes, rows, &test);
+        let bytes = words_of_answers(alloc, rows, test)?;
         BitBuffer::from_list(bytes, rows.len())
     }
+}
+
+/// The list of [`BitBuffer::from_rows`] from bit 0 on, in whole words of which all but the last values have no meaning.
+#[inline(always)]
+pub fn words_of_answers<T, F: Fn(&T) -> bool>(
+    alloc: Global,
+    rows: &[T],
+    test: F,
+) -> Result<ByteList, AllocError>
+    requires { F.IsAlwaysCallable test }
+    ensures room { IfOk result (λ b. vec_len b ≡ 8 * started_words (length rows.now)) }
+    ensures answers { IfOk result
+        (λ b. AreAnswers (FnReturnsAt F.Fn test) rows.now (bitmap b.items 0 (length rows.now))) }
+    ensures list { IfOk result
+        (λ b. AreAsComputed (F.post test) rows.now (bitmap b.items 0 (length rows.now))) }
+{
+    let mut bytes = unwritten(alloc, 8 * started_words(rows.len()))?;
+    put_answers(&mut bytes, rows, &test);
+    Ok(bytes)
 }
 
 // Writes what a test answers of rows to the front of `bytes`, which is room of whole words, a word at a time.

@@ -6,6 +6,7 @@
 mod and_rows;
 // rust: visible
 mod bit_iterator;
+// rust: visible
 mod bitops;
 #[doc(hidden)]
 pub mod blocks;
@@ -32,8 +33,8 @@ pub mod counts;
 mod eq;
 #[doc(hidden)]
 pub mod extract;
-// rust: visible
-mod from_rows;
+#[doc(hidden)]
+pub mod from_rows;
 #[doc(hidden)]
 pub mod kleene;
 pub mod laws;

@@ -17,8 +17,7 @@ use mask_bits::BitChunks;
 use mask_bits::counts::count_bits;
 use mask_bits::words::{set_word, word_at};
 use vortex_mask::intersect_by_rank::{
-    DepositBits, Portable, PortableLoop, RankBits, deposits_by_loop, narrow_at_ranks,
-    narrow_by_bits,
+    DepositBits, Portable, PortableLoop, RankBits, deposits_by_loop, narrow_at_ranks, narrow_words,
 };
 
 /// Writes the bitmap narrowed by another over its true values: true value number `k` stays true
@@ -49,13 +48,34 @@ pub extern "C" fn row_mask_intersect_by_rank(
         row_mask_copy(ranks, ranks_offset, len, out);
         return;
     }
+    narrow_rows(bytes, offset, len, ranks, ranks_offset, ranks_len, out);
+}
+
+// Narrows the whole words, and then the last values.
+// rust: level
+fn narrow_rows(
+    bytes: &[u8],
+    offset: usize,
+    len: usize,
+    ranks: &[u8],
+    ranks_offset: usize,
+    ranks_len: usize,
+    out: &mut [u8],
+)
+    requires bitmap { IsWithinBytes bytes.now offset len }
+    requires ranks { IsWithinBytes ranks.now ranks_offset ranks_len }
+    requires fitting { ranks_len ≡ count (bitmap bytes.now offset len) }
+    requires room { div_ceil len 8 ≤ length out.old }
+    ensures values { bitmap out.new 0 len
+        ≡ rank_intersection (bitmap bytes.now offset len) (bitmap ranks.now ranks_offset ranks_len) }
+    ensures clear { AreClearBehind out.new len }
+    ensures behind { drop (div_ceil len 8) out.new ≡ drop (div_ceil len 8) out.old }
+{
     let whole = len / 64;
     let (word, ones) = remainder_and_count(bytes, offset, len);
     let before = ranks_len - ones;
     let front = BitChunks::new(bytes, offset, 64 * whole);
-    let bits = RankBits::over(ranks, ranks_offset, before);
-    let are_few = deposits_by_loop(64 * whole, before);
-    narrow_whole(&front, &bits, are_few, &mut out[..8 * whole]);
+    narrow_whole(&front, ranks, ranks_offset, before, &mut out[..8 * whole]);
     let source = word_at(ranks, ranks_offset + before);
     put_remainder(out, Portable::deposit_bits(source, word, ones), len);
 }
@@ -74,19 +94,37 @@ fn remainder_and_count(bytes: &[u8], offset: usize, len: usize) -> (u64, usize)
 }
 
 // Narrows whole words.
-// rust: level
-fn narrow_whole(chunks: &BitChunks<'_>, ranks: &RankBits<'_>, are_few: bool, out: &mut [u8])
+fn narrow_whole(
+    chunks: &BitChunks<'_>,
+    ranks: &[u8],
+    ranks_offset: usize,
+    ranks_len: usize,
+    out: &mut [u8],
+)
+    requires fitting { ranks_len ≡ count chunks.now }
+    requires within { IsWithinBytes ranks.now ranks_offset ranks_len }
+    requires fits { length chunks.now < 2 ^ 64 }
+    requires whole { length chunks.now % 64 ≡ 0 }
+    requires room { length out.old ≡ 8 * started_words (length chunks.now) }
+    ensures { bitmap out.new 0 (length chunks.now)
+        ≡ rank_intersection chunks.now (bitmap ranks.now ranks_offset ranks_len) }
+{
+    if deposits_by_loop(64 * chunks.len(), ranks_len) {
+        let ranks = RankBits::over(ranks, ranks_offset, ranks_len);
+        narrow_few(chunks, &ranks, out);
+    } else {
+        narrow_words::<Portable>(chunks, ranks, ranks_offset, ranks_len, out);
+    }
+}
+
+// Narrows whole words of which most have no true value, and need no ranks.
+fn narrow_few(chunks: &BitChunks<'_>, ranks: &RankBits<'_>, out: &mut [u8])
     requires fitting { length (values ranks.now) ≡ count chunks.now }
     requires within { IsWithinBytes ranks.now.bytes ranks.now.offset ranks.now.len }
     requires whole { length chunks.now % 64 ≡ 0 }
     requires room { length out.old ≡ 8 * started_words (length chunks.now) }
     ensures { bitmap out.new 0 (length chunks.now) ≡ rank_intersection chunks.now (values ranks.now) }
 {
-    if !are_few {
-        narrow_by_bits::<Portable>(chunks, ranks, out);
-        return;
-    }
-    // most words have no true value, and need no ranks
     let mut at = 0;
     for i in 0..chunks.len() {
         let word = chunks.word(i);

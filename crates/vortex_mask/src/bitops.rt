@@ -1,7 +1,8 @@
 //! The boolean calls of masks.
 
 ghost use Rattle.std.specs.Prelude.{◌≡◌, ◌≢◌, ◌⊎◌, IsOk, IfOk, IsOkUnless, Ok, alloc_error, length};
-ghost use Rattle.mask_bits.specs.Lists.{and_of, or_of, not_of, and_not_of};
+ghost use Rattle.mask_bits.specs.Buffer.{values};
+ghost use Rattle.mask_bits.specs.Lists.{combined, and_of, or_of, not_of, and_not_of};
 ghost use Rattle.vortex_mask.specs.Bitops.{and_caches, or_caches, and_not_caches};
 ghost use Rattle.vortex_mask.specs.Caches.{caches};
 ghost use Rattle.vortex_mask.specs.Mask.{truth, variant, fitting_variant, variant_and, variant_or, variant_not, all_true, all_false, mixed};
@@ -9,6 +10,10 @@ ghost use Rattle.vortex_mask.specs.MaskValues.{no_caches};
 
 use crate::laws;
 use crate::mask::{Mask, MaskError, MaskValues};
+use mask_bits::BitBuffer;
+use mask_bits::byte_list::unwritten;
+use mask_bits::combine::{And, AndNot, BitOp, Or, combine_counted};
+use mask_bits::words::started_words;
 use std::alloc::Global;
 
 /// Boolean calls, value by value, of masks of one length.
@@ -44,7 +49,7 @@ impl Mask {
                 other.clone()
             }
             (Mask::Values(a), Mask::Values(b)) => {
-                Mask::from_buffer(alloc, a.bit_buffer().bitand(alloc, b.bit_buffer())?)
+                combined_mask::<And>(alloc, a.bit_buffer(), b.bit_buffer())
             }
         }
     }
@@ -77,7 +82,7 @@ impl Mask {
                 other.clone()
             }
             (Mask::Values(a), Mask::Values(b)) => {
-                Mask::from_buffer(alloc, a.bit_buffer().bitor(alloc, b.bit_buffer())?)
+                combined_mask::<Or>(alloc, a.bit_buffer(), b.bit_buffer())
             }
         }
     }
@@ -129,7 +134,7 @@ impl Mask {
             (_, Mask::AllTrue(_)) | (Mask::AllFalse(_), _) => Ok(Mask::new_false(self.len())),
             (Mask::AllTrue(_), Mask::Values(_)) => other.not(alloc),
             (Mask::Values(a), Mask::Values(b)) => {
-                Mask::from_buffer(alloc, a.bit_buffer().bitand_not(alloc, b.bit_buffer())?)
+                combined_mask::<AndNot>(alloc, a.bit_buffer(), b.bit_buffer())
             }
         }
     }
@@ -254,4 +259,21 @@ impl Mask {
             (mask, other) => mask.to_bitand_not(alloc, other),
         }
     }
+}
+
+// The mask of what `C` makes of two buffers. Its true values are counted as they are written.
+// rust: visible
+#[tactic(auto, using(mask_bits::proofs::Lists::Words::BackingBitLemmas::lengths))]
+fn combined_mask<C: BitOp>(alloc: Global, a: &BitBuffer, b: &BitBuffer) -> Result<Mask, MaskError>
+    requires { length (values a.now) ≡ length (values b.now) }
+    ensures list { IfOk result (λ m. truth m ≡ combined C.of_bits (values a.now) (values b.now)) }
+    ensures variant { IfOk result (λ m. variant m ≡ fitting_variant all_false (truth m)) }
+    ensures caches { IfOk result (λ m. caches m ≡ no_caches) }
+    ensures refused { IsOkUnless result (MaskError.Memory alloc_error) }
+{
+    let len = a.len();
+    let mut out = unwritten(alloc, 8 * started_words(len))?;
+    let (first, second) = (a.inner().as_slice(), b.inner().as_slice());
+    let true_count = combine_counted::<C>(first, a.offset(), second, b.offset(), len, &mut out);
+    Mask::of_words(alloc, out, len, true_count)
 }

@@ -1,6 +1,7 @@
 //! Masks: lists of truth values that say which rows are chosen, and their rank intersection.
 #![tactic(auto)]
 
+// rust: visible
 mod bitops;
 // rust: replaced by kit::cached_list
 #[doc(hidden)]

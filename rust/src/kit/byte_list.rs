@@ -27,7 +27,7 @@ pub fn byte_list(list: Vec<u8>) -> ByteList {
 /// # Errors
 /// [`AllocError`] where memory is refused.
 #[inline]
-pub(crate) fn unwritten(count: usize) -> Result<ByteList, AllocError> {
+pub fn unwritten(count: usize) -> Result<ByteList, AllocError> {
     match FewBytes::filled(0, count) {
         Some(few) => Ok(ByteList::Few(few)),
         None => Ok(ByteList::Many(list::unwritten(count, room_to_share(count))?)),

@@ -1,11 +1,13 @@
 //! Operators of masks and buffers beside `&` and `|` with a borrowed one: `^`, two that are given away, and changes in place.
 
 use crate::conditions::need_equal;
-use crate::convert::to_share;
 use crate::kit::{AllocError, Bytes};
 use crate::memory::granted;
 use crate::proved::mask_bits::BitBuffer;
+use crate::proved::mask_bits::bitops::combined_buffer;
+use crate::proved::mask_bits::combine::Xor;
 use crate::proved::mask_c::row_mask_xor_in_place;
+use crate::proved::vortex_mask::bitops::combined_mask;
 use crate::proved::vortex_mask::{Mask, MaskError, MaskValues};
 use core::mem;
 use core::ops::{BitAnd, BitAndAssign, BitOr, BitOrAssign, BitXor, BitXorAssign};
@@ -18,12 +20,12 @@ impl BitBuffer {
     ///
     /// # Panics
     /// Where the lengths differ.
+    #[inline]
     #[track_caller]
     pub fn try_bitxor(&self, other: &BitBuffer) -> Result<BitBuffer, AllocError> {
         let needs = &["`bitxor` needs `self.len() == other.len()`: ", " is not "];
         need_equal(self.len(), other.len(), needs);
-        let made = to_share(self.len(), |out| self.as_bitmap().xor_into(other, out));
-        made.map(BitBuffer::from).map_err(|_| AllocError)
+        combined_buffer::<Xor>(self, other)
     }
 
     /// The same, in this one's bytes where nobody else holds them.
@@ -75,7 +77,7 @@ impl Mask {
             (_, Mask::AllTrue(_)) => self.try_not(),
             (Mask::AllTrue(_), _) => other.try_not(),
             (Mask::Values(a), Mask::Values(b)) => {
-                Mask::try_from_buffer(a.bit_buffer().try_bitxor(b.bit_buffer())?)
+                combined_mask::<Xor>(a.bit_buffer(), b.bit_buffer())
             }
         }
     }

@@ -5,7 +5,7 @@ use crate::kit::prelude::*;
 // A hidden module serves the other crates of this repository alone. README.md lists them.
 pub(crate) mod and_rows;
 pub(crate) mod bit_iterator;
-mod bitops;
+pub(crate) mod bitops;
 #[doc(hidden)]
 pub mod blocks;
 #[doc(hidden)]
@@ -30,7 +30,8 @@ pub mod counts;
 mod eq;
 #[doc(hidden)]
 pub mod extract;
-pub(crate) mod from_rows;
+#[doc(hidden)]
+pub mod from_rows;
 #[doc(hidden)]
 pub mod kleene;
 mod nullable;

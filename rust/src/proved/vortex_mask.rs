@@ -2,7 +2,7 @@
 //! Masks: lists of truth values that say which rows are chosen, and their rank intersection.
 
 use crate::kit::prelude::*;
-mod bitops;
+pub(crate) mod bitops;
 #[doc(hidden)]
 pub(crate) use crate::kit::cached_list;
 pub mod conditions;

@@ -18,6 +18,8 @@ ghost use Rattle.mask_bits.specs.Runs.{AreRanges};
 
 use crate::mask::from_slices::merge_touching;
 use crate::mask::{AllOr, Mask, MaskError, MaskValues};
+use mask_bits::counts::count_bits;
+use mask_bits::from_rows::words_of_answers;
 use mask_bits::{BitBuffer, NullableBitBuffer};
 use std::alloc::Global;
 
@@ -91,6 +93,7 @@ impl Mask {
     /// What a test answers of each row, in their order: value `i` is its answer of row `i`. No rows give `AllFalse(0)`.
     ///
     /// The filter of a column by a test of its rows, such as `|row| *row > low`.
+    // rust: level to v4
     // rust: named try_from_rows
     pub fn from_rows<T, F: Fn(&T) -> bool>(
         alloc: Global,
@@ -105,8 +108,9 @@ impl Mask {
         ensures caches { IfOk result (λ m. caches m ≡ no_caches) }
         ensures refused { IsOkUnless result (MaskError.Memory alloc_error) }
     {
-        let buffer = BitBuffer::from_rows(alloc, rows, test)?;
-        Mask::from_buffer(alloc, buffer)
+        let words = words_of_answers(alloc, rows, test)?;
+        let true_count = count_bits(&words, 0, rows.len());
+        Mask::of_words(alloc, words, rows.len(), true_count)
     }
 }
 

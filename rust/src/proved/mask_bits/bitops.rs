@@ -228,7 +228,7 @@ impl BitBuffer {
 }
 
 // A buffer of what `C` makes of two.
-#[inline]
+#[inline(always)]
 pub(crate) fn combined_buffer<C: BitOp>(
     a: &BitBuffer,
     b: &BitBuffer,

@@ -2,7 +2,9 @@
 //! The list that an operation makes of two lists, value by value, over plain bytes.
 
 use crate::kit::prelude::*;
-use crate::proved::mask_bits::read_word::{Anywhere, Bits, ReadWord, Shifted, Unaligned, Whole};
+use crate::proved::mask_bits::read_word::{
+    Anywhere, Bits, Neighbors, ReadWord, Shifted, Unaligned, Whole,
+};
 use crate::proved::mask_bits::words::{set_word, started_words, word_at, word_of};
 
 /// An operation on truth values, done on 64 at once.
@@ -114,7 +116,9 @@ fn combine_any<C: BitOp>(
     let (a, b) = (Bits::new(a, a_offset), Bits::new(b, b_offset));
     let (whole, words) = (len / 64, started_words(len));
     extend_whole::<C>(a, b, whole, out);
-    extend::<C, Anywhere, Anywhere>(a, b, whole, words, out);
+    if whole < words {
+        extend_last::<C>(a, b, whole, out);
+    }
 }
 
 // Writes the first words.
@@ -123,10 +127,16 @@ fn extend_whole<C: BitOp>(a: Bits<'_>, b: Bits<'_>, words: usize, out: &mut [u8]
     if a.low == 0 && b.low == 0 {
         extend::<C, Whole, Whole>(a, b, 0, words, out);
     } else {
-        let inner = a.neighbors().min(b.neighbors()).min(words);
-        extend_inner::<C>(a, b, inner, out);
-        extend::<C, Unaligned, Unaligned>(a, b, inner, words, out);
+        extend_shifted::<C>(a, b, words, out);
     }
+}
+
+// Writes the first words of lists that do not both begin at a whole byte. Never inlined, so that the quicker case stays small.
+#[inline(never)]
+fn extend_shifted<C: BitOp>(a: Bits<'_>, b: Bits<'_>, words: usize, out: &mut [u8]) {
+    let inner = a.neighbors().min(b.neighbors()).min(words);
+    extend_inner::<C>(a, b, inner, out);
+    extend::<C, Unaligned, Unaligned>(a, b, inner, words, out);
 }
 
 // Writes words beside which there is another one. Each list is read in its own way, since a shift of one
@@ -170,7 +180,122 @@ fn extend<C: BitOp, A: ReadWord, B: ReadWord>(
     }
 }
 
-/// The same where the bits of `a` begin `bytes`: the list is written in their place. The bits of
+// Writes word `i`, which the bytes may have a part of, where those before are written. It isn't a turn of a loop, since what
+// the compiler would work out before that loop takes as long as some words.
+#[inline(always)]
+fn extend_last<C: BitOp>(a: Bits<'_>, b: Bits<'_>, i: usize, out: &mut [u8]) {
+    set_word(out, i, C::of(Anywhere::word(a, i), Anywhere::word(b, i)));
+}
+
+/// What [`combine`] does, and the answer is how many values are true. Those of a word are counted as it is written.
+#[inline]
+pub fn combine_counted<C: BitOp>(
+    a: &[u8],
+    a_offset: usize,
+    b: &[u8],
+    b_offset: usize,
+    len: usize,
+    out: &mut [u8],
+) -> usize {
+    crate::native::by_level_if!(
+        len > 128,
+        combine_counted_v3::<C>(a, a_offset, b, b_offset, len, out),
+        combine_counted_any::<C>(a, a_offset, b, b_offset, len, out)
+    )
+}
+
+#[cfg(target_arch = "x86_64")]
+#[target_feature(enable = "avx2,bmi1,bmi2,f16c,fma,lzcnt,movbe,popcnt")]
+fn combine_counted_v3<C: BitOp>(
+    a: &[u8],
+    a_offset: usize,
+    b: &[u8],
+    b_offset: usize,
+    len: usize,
+    out: &mut [u8],
+) -> usize {
+    combine_counted_any::<C>(a, a_offset, b, b_offset, len, out)
+}
+
+#[inline(always)]
+fn combine_counted_any<C: BitOp>(
+    a: &[u8],
+    a_offset: usize,
+    b: &[u8],
+    b_offset: usize,
+    len: usize,
+    out: &mut [u8],
+) -> usize {
+    let (a, b) = (Bits::new(a, a_offset), Bits::new(b, b_offset));
+    let (whole, rest) = (len / 64, len % 64);
+    let ones = count_whole::<C>(a, b, whole, out);
+    if rest == 0 {
+        return ones;
+    }
+    ones + count_last::<C>(a, b, whole, rest, out)
+}
+
+// Writes the first words, and answers how many of their values are true.
+#[inline(always)]
+fn count_whole<C: BitOp>(a: Bits<'_>, b: Bits<'_>, words: usize, out: &mut [u8]) -> usize {
+    if a.low == 0 && b.low == 0 {
+        return count_words::<C, Whole, Whole>(a, b, 0, words, 0, out);
+    }
+    count_shifted::<C>(a, b, words, out)
+}
+
+// The same of lists that do not both begin at a whole byte. Never inlined, so that the quicker case stays small.
+#[inline(never)]
+fn count_shifted<C: BitOp>(a: Bits<'_>, b: Bits<'_>, words: usize, out: &mut [u8]) -> usize {
+    crate::native::by_level!(
+        count_shifted_v3::<C>(a, b, words, out),
+        count_shifted_any::<C>(a, b, words, out)
+    )
+}
+
+#[cfg(target_arch = "x86_64")]
+#[target_feature(enable = "avx2,bmi1,bmi2,f16c,fma,lzcnt,movbe,popcnt")]
+fn count_shifted_v3<C: BitOp>(a: Bits<'_>, b: Bits<'_>, words: usize, out: &mut [u8]) -> usize {
+    count_shifted_any::<C>(a, b, words, out)
+}
+
+#[inline(always)]
+fn count_shifted_any<C: BitOp>(a: Bits<'_>, b: Bits<'_>, words: usize, out: &mut [u8]) -> usize {
+    let inner = a.neighbors().min(b.neighbors()).min(words);
+    let first = count_words::<C, Neighbors, Neighbors>(a, b, 0, inner, 0, out);
+    count_words::<C, Unaligned, Unaligned>(a, b, inner, words, first, out)
+}
+
+// Writes words `from` to `to`, where those before are written, and answers how many values of all are true, where `ones`
+// of those before are.
+#[inline(always)]
+fn count_words<C: BitOp, A: ReadWord, B: ReadWord>(
+    a: Bits<'_>,
+    b: Bits<'_>,
+    from: usize,
+    to: usize,
+    ones: usize,
+    out: &mut [u8],
+) -> usize {
+    let mut count = ones;
+    for i in from..to {
+        let word = C::of(A::word(a, i), B::word(b, i));
+        set_word(out, i, word);
+        count += word.count_ones() as usize;
+    }
+    count
+}
+
+// Writes word `i`, of which fewer than 64 bits are values, where those before are written, and answers how many of these
+// values are true.
+#[inline(always)]
+fn count_last<C: BitOp>(a: Bits<'_>, b: Bits<'_>, i: usize, rest: usize, out: &mut [u8]) -> usize {
+    let word = C::of(Anywhere::word(a, i), Anywhere::word(b, i));
+    set_word(out, i, word);
+    (word & ((1 << rest) - 1)).count_ones() as usize
+}
+
+/// What [`combine`] does where the bits of `a` begin `bytes`: the list is written in their place. The bits of
 /// `bytes` past the list have no meaning.
 #[inline]
 pub fn combine_in_place<C: BitOp>(bytes: &mut [u8], b: &[u8], b_offset: usize, len: usize) {

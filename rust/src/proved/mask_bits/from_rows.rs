@@ -5,7 +5,7 @@ use crate::kit::AllocError;
 use crate::kit::prelude::*;
 use crate::proved::mask_bits::bools::{word_of_half_lanes, word_of_lanes, word_of_sixteen_lanes};
 use crate::proved::mask_bits::buffer::BitBuffer;
-use crate::proved::mask_bits::byte_list::unwritten;
+use crate::proved::mask_bits::byte_list::{ByteList, unwritten};
 use crate::proved::mask_bits::words::{set_word, started_words};
 use ::core::mem::size_of_val;
 
@@ -63,10 +63,17 @@ impl BitBuffer {
 
     #[inline(always)]
     fn from_rows_any<T, F: Fn(&T) -> bool>(rows: &[T], test: F) -> Result<BitBuffer, AllocError> {
-        let mut bytes = unwritten(8 * started_words(rows.len()))?;
-        put_answers(&mut bytes, rows, &mut { test });
+        let bytes = words_of_answers(rows, test)?;
         BitBuffer::from_list(bytes, rows.len())
     }
+}
+
+/// The list of [`BitBuffer::from_rows`] from bit 0 on, in whole words of which all but the last values have no meaning.
+#[inline(always)]
+pub fn words_of_answers<T, F: Fn(&T) -> bool>(rows: &[T], test: F) -> Result<ByteList, AllocError> {
+    let mut bytes = unwritten(8 * started_words(rows.len()))?;
+    put_answers(&mut bytes, rows, &mut { test });
+    Ok(bytes)
 }
 
 // Writes what a test answers of rows to the front of `bytes`, which is room of whole words, a word at a time.

@@ -8,8 +8,7 @@ use crate::proved::mask_bits::words::{set_word, word_at};
 use crate::proved::mask_c::last::put_remainder;
 use crate::proved::mask_c::pointwise::row_mask_copy;
 use crate::proved::vortex_mask::intersect_by_rank::{
-    DepositBits, Portable, PortableLoop, RankBits, deposits_by_loop, narrow_at_ranks,
-    narrow_by_bits,
+    DepositBits, Portable, PortableLoop, RankBits, deposits_by_loop, narrow_at_ranks, narrow_words,
 };
 
 /// Writes the bitmap narrowed by another over its true values: true value number `k` stays true
@@ -31,13 +30,55 @@ pub fn row_mask_intersect_by_rank(
         row_mask_copy(ranks, ranks_offset, len, out);
         return;
     }
+    narrow_rows(bytes, offset, len, ranks, ranks_offset, ranks_len, out);
+}
+
+// Narrows the whole words, and then the last values.
+#[inline]
+fn narrow_rows(
+    bytes: &[u8],
+    offset: usize,
+    len: usize,
+    ranks: &[u8],
+    ranks_offset: usize,
+    ranks_len: usize,
+    out: &mut [u8],
+) {
+    crate::native::by_level!(
+        narrow_rows_v3(bytes, offset, len, ranks, ranks_offset, ranks_len, out),
+        narrow_rows_any(bytes, offset, len, ranks, ranks_offset, ranks_len, out)
+    )
+}
+
+#[cfg(target_arch = "x86_64")]
+#[target_feature(enable = "avx2,bmi1,bmi2,f16c,fma,lzcnt,movbe,popcnt")]
+fn narrow_rows_v3(
+    bytes: &[u8],
+    offset: usize,
+    len: usize,
+    ranks: &[u8],
+    ranks_offset: usize,
+    ranks_len: usize,
+    out: &mut [u8],
+) {
+    narrow_rows_any(bytes, offset, len, ranks, ranks_offset, ranks_len, out)
+}
+
+#[inline(always)]
+fn narrow_rows_any(
+    bytes: &[u8],
+    offset: usize,
+    len: usize,
+    ranks: &[u8],
+    ranks_offset: usize,
+    ranks_len: usize,
+    out: &mut [u8],
+) {
     let whole = len / 64;
     let (word, ones) = remainder_and_count(bytes, offset, len);
     let before = ranks_len - ones;
     let front = BitChunks::new_proved(bytes, offset, 64 * whole);
-    let bits = RankBits::over_proved(ranks, ranks_offset, before);
-    let are_few = crate::native::by_loop(64 * whole, before);
-    narrow_whole(&front, &bits, are_few, &mut out[..8 * whole]);
+    narrow_whole(&front, ranks, ranks_offset, before, &mut out[..8 * whole]);
     let source = word_at(ranks, ranks_offset + before);
     put_remainder(
         out,
@@ -50,41 +91,41 @@ pub fn row_mask_intersect_by_rank(
 }
 
 // The values past the whole words in the low bits of a word, and how many of them are true.
-#[inline]
+#[inline(always)]
 fn remainder_and_count(bytes: &[u8], offset: usize, len: usize) -> (u64, usize) {
     let word = BitChunks::new_proved(bytes, offset, len).remainder_bits();
     (word, word.count_ones() as usize)
 }
 
 // Narrows whole words.
-#[inline]
-fn narrow_whole(chunks: &BitChunks<'_>, ranks: &RankBits<'_>, are_few: bool, out: &mut [u8]) {
-    crate::native::by_level!(
-        narrow_whole_v3(chunks, ranks, are_few, out),
-        narrow_whole_any(chunks, ranks, are_few, out)
-    )
-}
-
-#[cfg(target_arch = "x86_64")]
-#[target_feature(enable = "avx2,bmi1,bmi2,f16c,fma,lzcnt,movbe,popcnt")]
-fn narrow_whole_v3(chunks: &BitChunks<'_>, ranks: &RankBits<'_>, are_few: bool, out: &mut [u8]) {
-    narrow_whole_any(chunks, ranks, are_few, out)
-}
-
 #[inline(always)]
-fn narrow_whole_any(chunks: &BitChunks<'_>, ranks: &RankBits<'_>, are_few: bool, out: &mut [u8]) {
-    if !are_few {
+fn narrow_whole(
+    chunks: &BitChunks<'_>,
+    ranks: &[u8],
+    ranks_offset: usize,
+    ranks_len: usize,
+    out: &mut [u8],
+) {
+    if crate::native::by_loop(64 * chunks.len(), ranks_len) {
+        let ranks = RankBits::over_proved(ranks, ranks_offset, ranks_len);
+        narrow_few(chunks, &ranks, out);
+    } else {
         crate::native::quickest!(
-            crate::proved::vortex_mask::intersect_by_rank::kernels::bit_buffers::narrow_by_bits_any::<
-                crate::native::ByInstruction,
-            >(chunks, ranks, out),
-            crate::proved::vortex_mask::intersect_by_rank::kernels::bit_buffers::narrow_by_bits_any::<
-                Portable,
-            >(chunks, ranks, out)
+            narrow_words::<crate::native::ByInstruction>(
+                chunks,
+                ranks,
+                ranks_offset,
+                ranks_len,
+                out
+            ),
+            narrow_words::<Portable>(chunks, ranks, ranks_offset, ranks_len, out)
         );
-        return;
     }
-    // most words have no true value, and need no ranks
+}
+
+// Narrows whole words of which most have no true value, and need no ranks.
+#[inline(always)]
+fn narrow_few(chunks: &BitChunks<'_>, ranks: &RankBits<'_>, out: &mut [u8]) {
     let mut at = 0;
     for i in 0..chunks.len() {
         let word = chunks.word_proved(i);

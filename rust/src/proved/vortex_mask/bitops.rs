@@ -2,6 +2,10 @@
 //! The boolean calls of masks.
 
 use crate::kit::prelude::*;
+use crate::proved::mask_bits::BitBuffer;
+use crate::proved::mask_bits::byte_list::unwritten;
+use crate::proved::mask_bits::combine::{And, AndNot, BitOp, Or, combine_counted};
+use crate::proved::mask_bits::words::started_words;
 use crate::proved::vortex_mask::mask::{Mask, MaskError, MaskValues};
 
 /// Boolean calls, value by value, of masks of one length.
@@ -43,7 +47,7 @@ impl Mask {
             (_, Mask::AllFalse(_)) | (Mask::AllFalse(_), _) => Ok(Mask::new_false(self.len())),
             (Mask::AllTrue(_), Mask::Values(_)) => other.clone(),
             (Mask::Values(a), Mask::Values(b)) => {
-                Mask::from_buffer_proved(a.bit_buffer().bitand_proved(b.bit_buffer())?)
+                combined_mask::<And>(a.bit_buffer(), b.bit_buffer())
             }
         }
     }
@@ -83,7 +87,7 @@ impl Mask {
             (_, Mask::AllTrue(_)) | (Mask::AllTrue(_), _) => Ok(Mask::new_true(self.len())),
             (Mask::AllFalse(_), Mask::Values(_)) => other.clone(),
             (Mask::Values(a), Mask::Values(b)) => {
-                Mask::from_buffer_proved(a.bit_buffer().bitor_proved(b.bit_buffer())?)
+                combined_mask::<Or>(a.bit_buffer(), b.bit_buffer())
             }
         }
     }
@@ -153,7 +157,7 @@ impl Mask {
             (_, Mask::AllTrue(_)) | (Mask::AllFalse(_), _) => Ok(Mask::new_false(self.len())),
             (Mask::AllTrue(_), Mask::Values(_)) => other.not_proved(),
             (Mask::Values(a), Mask::Values(b)) => {
-                Mask::from_buffer_proved(a.bit_buffer().bitand_not_proved(b.bit_buffer())?)
+                combined_mask::<AndNot>(a.bit_buffer(), b.bit_buffer())
             }
         }
     }
@@ -317,4 +321,14 @@ impl Mask {
             (mask, other) => mask.to_bitand_not_proved(other),
         }
     }
+}
+
+// The mask of what `C` makes of two buffers. Its true values are counted as they are written.
+#[inline]
+pub(crate) fn combined_mask<C: BitOp>(a: &BitBuffer, b: &BitBuffer) -> Result<Mask, MaskError> {
+    let len = a.len();
+    let mut out = unwritten(8 * started_words(len))?;
+    let (first, second) = (a.inner().as_slice(), b.inner().as_slice());
+    let true_count = combine_counted::<C>(first, a.offset(), second, b.offset(), len, &mut out);
+    Mask::of_words(out, len, true_count)
 }

@@ -22,7 +22,7 @@ pub use deposit::{
 pub use extract::ExtractBits;
 pub use kernels::{
     intersect_bit_buffer_by_rank_indices, intersect_bit_buffers, intersect_by_rank_indices,
-    intersect_mask_driven, narrow_at_ranks, narrow_by_bits,
+    intersect_mask_driven, narrow_at_ranks, narrow_by_bits, narrow_words,
 };
 use narrow::narrow_by_path;
 pub use path::{RankPath, rank_path};

@@ -10,13 +10,14 @@ ghost use Rattle.vortex_mask.specs.MaskValues.{no_caches};
 ghost use Rattle.vortex_mask.specs.Steps.{word_steps};
 ghost use Rattle.mask_bits.specs.Words.{started_words};
 
-use crate::intersect_by_rank::count_steps::CountSteps;
+use crate::intersect_by_rank::count_steps::{CountSteps, Uncounted};
 use crate::intersect_by_rank::deposit::DepositBits;
 use crate::intersect_by_rank::kernels::word_loop::{Narrowed, RankWords};
 use crate::intersect_by_rank::rank_bits::{RankBits, word_inside};
 use crate::intersect_by_rank::steps::Steps;
 use crate::mask::{Mask, MaskError};
-use mask_bits::words::started_words;
+use mask_bits::byte_list::unwritten;
+use mask_bits::words::{started_words, word_at};
 use mask_bits::{BitBuffer, BitChunks};
 use std::alloc::Global;
 
@@ -43,7 +44,7 @@ pub fn intersect_bit_buffers<D: DepositBits>(
 
 // The mask of `intersect_bit_buffers`, with the steps where `C` counts them.
 // rust: inline
-#[tactic(auto, using(mask_bits::proofs::Lists::LawLemmas::rank_intersection_count, std::proofs::lemmas::List::take_at))]
+#[tactic(auto, using(mask_bits::proofs::Lists::LawLemmas::rank_intersection_count, std::proofs::lemmas::List::take_at, crate::proofs::Lists::BufferPartLemmas::buffer_parts))]
 pub(crate) fn intersect_bit_buffers_with<D: DepositBits, C: CountSteps>(
     alloc: Global,
     self_buffer: &BitBuffer,
@@ -61,9 +62,10 @@ pub(crate) fn intersect_bit_buffers_with<D: DepositBits, C: CountSteps>(
     ensures refused { IsOkUnless result (MaskError.Memory alloc_error) }
 {
     let len = self_buffer.len();
-    let mut words = vec![in alloc; 0u8; 8 * started_words(len)]?;
-    let ranks = RankBits::new(mask_buffer);
-    let steps = narrow_by_bits_with::<D, C>(&self_buffer.chunks(), &ranks, &mut words);
+    let mut words = unwritten(alloc, 8 * started_words(len))?;
+    let (ranks, offset) = (mask_buffer.inner().as_slice(), mask_buffer.offset());
+    let chunks = self_buffer.chunks();
+    let steps = narrow_words_with::<D, C>(&chunks, ranks, offset, mask_buffer.len(), &mut words);
     Ok((Mask::of_words(alloc, words, len, true_count)?, steps))
 }
 
@@ -85,6 +87,55 @@ pub fn narrow_by_bits<D: DepositBits>(
         ≡ word_steps chunks.now (rank_intersection chunks.now (values ranks.now)) }
 {
     narrow_by_bits_with::<D, Steps>(chunks, ranks, out)
+}
+
+// So few words go by the ranks where they lie: to make their last bytes ready takes as long as some words.
+const FEW_WORDS: usize = 16;
+
+/// Writes the values of `chunks` narrowed by the `len` bits of `ranks` from bit `offset` on to `out`, which has just the
+/// bytes of the started words.
+// rust: inline
+pub fn narrow_words<D: DepositBits>(
+    chunks: &BitChunks<'_>,
+    ranks: &[u8],
+    offset: usize,
+    len: usize,
+    out: &mut [u8],
+)
+    requires fitting { len ≡ count chunks.now }
+    requires within { IsWithinBytes ranks.now offset len }
+    requires room { length out.old ≡ 8 * started_words (length chunks.now) }
+    ensures { bitmap out.new 0 (length chunks.now)
+        ≡ rank_intersection chunks.now (bitmap ranks.now offset len) }
+{
+    narrow_words_with::<D, Uncounted>(chunks, ranks, offset, len, out);
+}
+
+// Writes what `narrow_words` does, and answers the steps where `C` counts them.
+// rust: inline
+fn narrow_words_with<D: DepositBits, C: CountSteps>(
+    chunks: &BitChunks<'_>,
+    ranks: &[u8],
+    offset: usize,
+    len: usize,
+    out: &mut [u8],
+) -> C
+    requires fitting { len ≡ count chunks.now }
+    requires within { IsWithinBytes ranks.now offset len }
+    requires room { length out.old ≡ 8 * started_words (length chunks.now) }
+    ensures list { bitmap out.new 0 (length chunks.now)
+        ≡ rank_intersection chunks.now (bitmap ranks.now offset len) }
+    ensures steps { IfSome (C.step_counts result) (λ s. s
+        ≡ word_steps chunks.now (rank_intersection chunks.now (bitmap ranks.now offset len))) }
+{
+    if chunks.len() > FEW_WORDS {
+        return narrow_by_bits_with::<D, C>(chunks, &RankBits::over(ranks, offset, len), out);
+    }
+    let anywhere = BitsAnywhere {
+        bytes: ranks,
+        offset,
+    };
+    Narrowed::new(offset).narrow_rest::<D, _>(chunks, &anywhere, out)
 }
 
 // Writes what `narrow_by_bits` does, and answers the steps where `C` counts them.
@@ -146,7 +197,37 @@ impl RankWords for BitsInside<'_> {
     }
 }
 
-// Also those at the end, with a test for each word.
+// The bits of some bytes from bit `offset` on, with a test for each word. A place is a position in the bytes.
+#[derive(Drop)]
+struct BitsAnywhere<'a> {
+    bytes: &'a [u8],
+    offset: usize,
+}
+
+impl RankWords for BitsAnywhere<'_> {
+    ghost bit = { λ b k. backing_bit b.bytes.now (b.offset + k) };
+
+    ghost end = { λ b. 2 ^ 64 - 1 - b.offset };
+
+    ghost number = { λ b at. at - b.offset };
+
+    ghost IsPassed = { λ b _ at. (b.offset ≤ at) × (at < 2 ^ 64) };
+
+    ghost Reaches = { λ _ _. ⊤ };
+
+    #[inline(always)]
+    fn reaches(&self, _at: usize) -> bool {
+        true
+    }
+
+    #[tactic(auto, using(crate::proofs::Kernels::WordKernelLemmas::bit_of_window))]
+    #[inline(always)]
+    fn two_words(&self, _next: &mut usize, at: usize, ones: [usize; 2]) -> [u64; 2] {
+        [word_at(self.bytes, at), word_at(self.bytes, at + ones[0])]
+    }
+}
+
+// Also those at the end, by the copy of these.
 impl RankWords for RankBits<'_> {
     ghost bit = { λ b k. backing_bit b.bytes (b.offset + k) };
 

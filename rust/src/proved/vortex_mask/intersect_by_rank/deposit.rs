@@ -160,7 +160,7 @@ const VALUES_PER_TRUE_BY_LOOP: u64 = 16;
 /// # Proved ([terms](crate::definitions))
 ///
 /// - `result ≡ is_deposited_by_loop len true_count`
-#[inline]
+#[inline(always)]
 pub fn deposits_by_loop(len: usize, true_count: usize) -> bool {
     u128::from(VALUES_PER_TRUE_BY_LOOP) * (true_count as u128) < len as u128
 }

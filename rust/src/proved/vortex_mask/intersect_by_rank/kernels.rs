@@ -11,7 +11,7 @@ mod rank_lists;
 mod word_loop;
 
 pub(super) use bit_buffers::intersect_bit_buffers_with;
-pub use bit_buffers::{intersect_bit_buffers, narrow_by_bits};
+pub use bit_buffers::{intersect_bit_buffers, narrow_by_bits, narrow_words};
 pub use indices::intersect_by_rank_indices;
 pub(super) use indices::intersect_by_rank_indices_with;
 pub use mask_driven::intersect_mask_driven;

@@ -2,6 +2,8 @@
 //! Masks from buffers and truth values, and buffers from masks.
 
 use crate::kit::prelude::*;
+use crate::proved::mask_bits::counts::count_bits;
+use crate::proved::mask_bits::from_rows::words_of_answers;
 use crate::proved::mask_bits::{BitBuffer, NullableBitBuffer};
 use crate::proved::vortex_mask::mask::from_slices::merge_touching;
 use crate::proved::vortex_mask::mask::{AllOr, Mask, MaskError, MaskValues};
@@ -143,8 +145,31 @@ impl Mask {
         rows: &[T],
         test: F,
     ) -> Result<Mask, MaskError> {
-        let buffer = BitBuffer::from_rows_proved(rows, test)?;
-        Mask::from_buffer_proved(buffer)
+        crate::native::by_level_to_v4!(
+            Self::from_rows_v4::<T, F>(rows, test),
+            Self::from_rows_v3::<T, F>(rows, test),
+            Self::from_rows_any::<T, F>(rows, test)
+        )
+    }
+
+    #[cfg(target_arch = "x86_64")]
+    #[target_feature(enable = "avx2,bmi1,bmi2,f16c,fma,lzcnt,movbe,popcnt")]
+    fn from_rows_v3<T, F: Fn(&T) -> bool>(rows: &[T], test: F) -> Result<Mask, MaskError> {
+        Self::from_rows_any::<T, F>(rows, test)
+    }
+
+    #[cfg(target_arch = "x86_64")]
+    #[target_feature(enable = "avx2,bmi1,bmi2,f16c,fma,lzcnt,movbe,popcnt")]
+    #[target_feature(enable = "avx512f,avx512bw,avx512cd,avx512dq,avx512vl")]
+    fn from_rows_v4<T, F: Fn(&T) -> bool>(rows: &[T], test: F) -> Result<Mask, MaskError> {
+        Self::from_rows_any::<T, F>(rows, test)
+    }
+
+    #[inline(always)]
+    fn from_rows_any<T, F: Fn(&T) -> bool>(rows: &[T], test: F) -> Result<Mask, MaskError> {
+        let words = words_of_answers(rows, test)?;
+        let true_count = crate::proved::mask_bits::counts::count_bits_any(&words, 0, rows.len());
+        Mask::of_words(words, rows.len(), true_count)
     }
 }
 

@@ -48,7 +48,7 @@ impl Mask {
     }
 
     // The mask of the first `len` bits of `words`, of which `true_count` are true.
-    #[inline]
+    #[inline(always)]
     pub(crate) fn of_words(
         words: ByteList,
         len: usize,

@@ -2,9 +2,10 @@
 //! The kernel over two bit buffers: one deposit for each started word.
 
 use crate::kit::prelude::*;
-use crate::proved::mask_bits::words::started_words;
+use crate::proved::mask_bits::byte_list::unwritten;
+use crate::proved::mask_bits::words::{started_words, word_at};
 use crate::proved::mask_bits::{BitBuffer, BitChunks};
-use crate::proved::vortex_mask::intersect_by_rank::count_steps::CountSteps;
+use crate::proved::vortex_mask::intersect_by_rank::count_steps::{CountSteps, Uncounted};
 use crate::proved::vortex_mask::intersect_by_rank::deposit::DepositBits;
 use crate::proved::vortex_mask::intersect_by_rank::kernels::word_loop::{Narrowed, RankWords};
 use crate::proved::vortex_mask::intersect_by_rank::rank_bits::{RankBits, word_inside};
@@ -50,9 +51,10 @@ pub(crate) fn intersect_bit_buffers_with<D: DepositBits, C: CountSteps>(
     true_count: usize,
 ) -> Result<(Mask, C), MaskError> {
     let len = self_buffer.len();
-    let mut words = crate::kit::filled(0u8, 8 * started_words(len))?;
-    let ranks = RankBits::new(mask_buffer);
-    let steps = narrow_by_bits_with::<D, C>(&self_buffer.chunks(), &ranks, &mut words);
+    let mut words = unwritten(8 * started_words(len))?;
+    let (ranks, offset) = (mask_buffer.inner().as_slice(), mask_buffer.offset());
+    let chunks = self_buffer.chunks();
+    let steps = narrow_words_with::<D, C>(&chunks, ranks, offset, mask_buffer.len(), &mut words);
     Ok((Mask::of_words(words, len, true_count)?, steps))
 }
 
@@ -87,6 +89,42 @@ pub(crate) fn narrow_by_bits_any<D: DepositBits>(
     out: &mut [u8],
 ) -> Steps {
     narrow_by_bits_with::<D, Steps>(chunks, ranks, out)
+}
+
+// So few words go by the ranks where they lie: to make their last bytes ready takes as long as some words.
+const FEW_WORDS: usize = 16;
+
+/// Writes the values of `chunks` narrowed by the `len` bits of `ranks` from bit `offset` on to `out`, which has just the
+/// bytes of the started words.
+#[inline(always)]
+pub fn narrow_words<D: DepositBits>(
+    chunks: &BitChunks<'_>,
+    ranks: &[u8],
+    offset: usize,
+    len: usize,
+    out: &mut [u8],
+) {
+    narrow_words_with::<D, Uncounted>(chunks, ranks, offset, len, out);
+}
+
+// Writes what `narrow_words` does, and answers the steps where `C` counts them.
+#[inline(always)]
+fn narrow_words_with<D: DepositBits, C: CountSteps>(
+    chunks: &BitChunks<'_>,
+    ranks: &[u8],
+    offset: usize,
+    len: usize,
+    out: &mut [u8],
+) -> C {
+    if chunks.len() > FEW_WORDS {
+        return narrow_by_bits_with::<D, C>(
+            chunks,
+            &RankBits::over_proved(ranks, offset, len),
+            out,
+        );
+    }
+    let anywhere = BitsAnywhere { bytes: ranks, offset };
+    Narrowed::new(offset).narrow_rest::<D, _>(chunks, &anywhere, out)
 }
 
 // Writes what `narrow_by_bits` does, and answers the steps where `C` counts them.
@@ -145,7 +183,25 @@ impl RankWords for BitsInside<'_> {
     }
 }
 
-// Also those at the end, with a test for each word.
+// The bits of some bytes from bit `offset` on, with a test for each word. A place is a position in the bytes.
+struct BitsAnywhere<'a> {
+    bytes: &'a [u8],
+    offset: usize,
+}
+
+impl RankWords for BitsAnywhere<'_> {
+    #[inline(always)]
+    fn reaches(&self, _at: usize) -> bool {
+        true
+    }
+
+    #[inline(always)]
+    fn two_words(&self, _next: &mut usize, at: usize, ones: [usize; 2]) -> [u64; 2] {
+        [word_at(self.bytes, at), word_at(self.bytes, at + ones[0])]
+    }
+}
+
+// Also those at the end, by the copy of these.
 impl RankWords for RankBits<'_> {
     #[inline(always)]
     fn reaches(&self, _at: usize) -> bool {

@@ -1,5 +1,5 @@
 use Rattle.mask_c.proofs.Common.{ℕ, ◌≡◌, ◌*◌, ◌<◌, values, count_below, rank_intersection, padded_part, window}
-use Rattle.mask_c.proofs.intersect.narrow_whole.Given as goal
+use Rattle.mask_c.proofs.intersect.narrow_few.Given as goal
 
 -- the words so far, and how many values are true before the next one
 abbrev pub invariant-loop-i : goal.invariant-loop-i
