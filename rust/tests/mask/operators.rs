@@ -60,6 +60,31 @@ fn of_masks() {
     }
 }
 
+/// A result knows how many of its values are true, whatever bit its operands begin at.
+#[test]
+fn results_are_counted() {
+    let count = |list: &[bool]| list.iter().filter(|value| **value).count();
+    for len in [2, 63, 64, 65, 100, 127, 128, 129, 192, 256, 1000, 1023, 1024, 1025, 1100, 5000] {
+        let list: Vec<bool> = (0..len).map(|i| i * i % 7 < 3).collect();
+        let other = other(&list);
+        let of = |list: &[bool]| buffers(list).into_iter().map(Mask::from);
+        for a in of(&list) {
+            for b in of(&other) {
+                let results = [&a & &b, &a | &b, &a ^ &b, a.to_bitand_not(&b)];
+                let wanted: [fn(bool, bool) -> bool; 4] =
+                    [|a, b| a && b, |a, b| a || b, |a, b| a != b, |a, b| a && !b];
+                for (result, wanted) in results.iter().zip(wanted) {
+                    let wanted = combined(&list, &other, wanted);
+                    assert!(result.iter().eq(wanted.iter().copied()), "{len}");
+                    assert_eq!(result.true_count(), count(&wanted), "{len}");
+                }
+            }
+            let by_rows = Mask::from_rows(&list, |value| *value);
+            assert_eq!((by_rows.true_count(), &by_rows), (count(&list), &a));
+        }
+    }
+}
+
 /// The calls by name answer masks of the same variants and caches.
 #[test]
 fn as_by_name() {

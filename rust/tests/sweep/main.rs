@@ -49,6 +49,20 @@ fn lengths_and_offsets() {
     assert!(seen.0 > 900_000, "{}", seen.0);
 }
 
+/// Here a rank intersection begins to go by its longer loop.
+#[test]
+fn about_a_thousand_values() {
+    let (mut seen, mut random) = (Comparisons::default(), Generator(3));
+    for len in (1016..1032).chain(1080..1096) {
+        for (share, offset) in [(8, 0), (128, 0), (128, 5), (250, 11)] {
+            let list = random.list(len, share);
+            one(&mut seen, &mut random, &list, offset);
+        }
+    }
+    println!("{} comparisons of bitmaps of 1,016 to 1,095 values", seen.0);
+    assert!(seen.0 > 100_000, "{}", seen.0);
+}
+
 #[test]
 fn a_million_values() {
     let (mut seen, mut random) = (Comparisons::default(), Generator(2));
