@@ -1,13 +1,13 @@
 //! Indices by rank and ranks by index, in any order, by counts that are made once.
 
-use crate::Bitmap;
 use crate::memory::granted;
 use crate::proved::mask_bits::{BitBuffer, Ranks};
+use crate::{Bitmap, BitmapBuf};
 use core::fmt;
 
 impl Ranks {
     /// Counts the true values, and keeps them. A [`BitBuffer`] and a [`Mask`](crate::Mask) share their bytes with it, a
-    /// [`BitmapBuf`](crate::BitmapBuf) gives its own, and of a [`Bitmap`] it takes a copy.
+    /// [`BitmapBuf`] gives its own, and of a [`Bitmap`] it takes a copy.
     ///
     /// ```
     /// use row_mask::{BitmapBuf, Ranks};
@@ -41,6 +41,14 @@ impl Bitmap<'_> {
     #[must_use]
     pub fn ranks(self) -> Ranks {
         Ranks::new(self)
+    }
+}
+
+impl BitmapBuf {
+    /// The true values, counted, beside a copy of the bitmap: [`Bitmap::ranks`]. `Ranks::new(bitmap)` takes no copy.
+    #[must_use]
+    pub fn ranks(&self) -> Ranks {
+        self.as_bitmap().ranks()
     }
 }
 

@@ -1,9 +1,12 @@
-//! The indices that two ascending lists have in common.
+//! The indices that two ascending lists have in common, and those of a list at which a bitmap is true.
 //!
 //! No list is tested for its order: whatever stands in them the calls end, and what they find is said where both ascend.
 
-ghost use Rattle.std.specs.Prelude.{◌≡◌, ◌+◌, ◌<◌, ◌≤◌, ◌↔◌, ◌++◌, IsTrue, Some, ℕ, length, map, min, take, drop, slice_get, slice_index, slice_set};
+ghost use Rattle.std.specs.Prelude.{◌≡◌, ◌+◌, ◌<◌, ◌≤◌, ◌↔◌, ◌++◌, IsTrue, Some, ℕ, All, false, length, map, min, take, drop, slice_get, slice_index, slice_index_or, slice_set};
+ghost use Rattle.std.specs.List.{filter};
 ghost use Rattle.std.specs.List.Sorted.{IsStrictlyIncreasing};
+ghost use Rattle.mask_bits.specs.Bitmap.{bitmap};
+ghost use Rattle.mask_bits.specs.Buffer.{IsWithinBytes};
 ghost use Rattle.mask_bits.specs.CommonIndices.{AreSplit, common};
 ghost use Rattle.mask_bits.specs.Merges.{IsAt, IsFound, GoesOn, comes_to};
 
@@ -60,6 +63,45 @@ fn move_found<N: RowIndex>(list: &mut [N], other: &[N]) -> usize
     } else {
         merge(list, other)
     }
+}
+
+/// Writes those of a list of indices at which a bitmap is true to the front of `out`, in their order, and answers how many
+/// these are. Indices may come in any order and more than once. Behind what is found `out` may have other indices than
+/// before, as far as the list would reach.
+pub fn put_true<N: RowIndex>(
+    bytes: &[u8],
+    offset: usize,
+    len: usize,
+    indices: &[N],
+    out: &mut [N],
+) -> usize
+    requires bitmap { IsWithinBytes bytes.now offset len }
+    requires within { All (λ i. N.row_number i < len) indices.now }
+    requires room { length indices.now ≤ length out.old }
+    ensures within { result ≤ length indices.now }
+    ensures indices { take result out.new
+        ≡ filter (λ i. slice_index_or (bitmap bytes.now offset len) (N.row_number i) false) indices.now }
+    ensures behind { drop (length indices.now) out.new ≡ drop (length indices.now) out.old }
+{
+    let mut found = 0;
+    // (with no branch, since it can't be foreseen which values are true)
+    for k in 0..indices.len() {
+        let index = item(indices, k);
+        put(out, found, index);
+        found += is_true(bytes, offset, len, index.get()) as usize;
+    }
+    found
+}
+
+// Whether value `i` is true.
+#[inline(always)]
+fn is_true(bytes: &[u8], offset: usize, len: usize, i: usize) -> bool
+    requires bitmap { IsWithinBytes bytes.now offset len }
+    requires within { i < len }
+    ensures { result ≡ slice_index_or (bitmap bytes.now offset len) i false }
+{
+    let position = offset + i;
+    (item(bytes, position / 8) >> (position % 8)) & 1 == 1
 }
 
 // The number at a place.

@@ -13,6 +13,8 @@ pub fn takes(seen: &mut Comparisons, random: &mut Generator, list: &[bool], bitm
     let bits: Vec<bool> = places.iter().map(|i| list[*i]).collect();
     of_bits(seen, bitmap, &places, &bits);
     of_bits(seen, bitmap, &short, &bits);
+    of_true(seen, list, bitmap, &places);
+    of_true(seen, list, bitmap, &short);
     let row = |i: usize| (i as u64).wrapping_mul(0x9E37_79B9_7F4A_7C15);
     of_rows(seen, len, &places, &short, |i| row(i).to_le_bytes()[0]);
     of_rows(seen, len, &places, &short, |i| row(i).to_le_bytes()[1] as char);
@@ -54,6 +56,24 @@ fn narrow(seen: &mut Comparisons, random: &mut Generator, list: &[bool], bitmap:
     indices.push(narrowed(len));
     let outside = Err(Error::IndexOutOfBounds { index: len, len });
     seen.same(BitmapBuf::from_indices_u32(len, &indices), outside);
+}
+
+/// Those of the indices whose values are true.
+fn of_true<I: RowIndex + Debug>(
+    seen: &mut Comparisons,
+    list: &[bool],
+    bitmap: Bitmap<'_>,
+    indices: &[I],
+) where
+    usize: TryFrom<I>,
+{
+    let is_true = |i: &&I| usize::try_from(**i).is_ok_and(|i| list[i]);
+    let want: Vec<I> = indices.iter().filter(is_true).copied().collect();
+    seen.same(bitmap.true_among(indices).as_ref(), Ok(&want));
+    let mut out = [indices, &indices[..indices.len().min(2)]].concat();
+    seen.same(bitmap.true_among_into(indices, &mut out), Ok(want.len()));
+    seen.same(&out[..want.len()], &want[..]);
+    seen.same(&out[indices.len()..], &indices[..indices.len().min(2)]);
 }
 
 fn of_bits(seen: &mut Comparisons, bitmap: Bitmap<'_>, indices: &[impl RowIndex], want: &[bool]) {

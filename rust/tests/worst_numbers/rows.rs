@@ -141,3 +141,18 @@ fn indices_in_common_of_any_lists() {
         }
     }
 }
+
+#[test]
+fn indices_at_which_a_bitmap_is_true() {
+    let bits = Bitmap::new(&[0b101], 0, 3).unwrap();
+    for index in [3, 1 << 32, usize::MAX] {
+        let (indices, past) = ([2, index, 7], Error::IndexOutOfBounds { index, len: 3 });
+        let mut out = [9; 3];
+        assert_eq!(refused(|| bits.true_among(&indices)), past);
+        assert_eq!(refused(|| bits.true_among_into(&indices, &mut out)), past);
+        assert_eq!(out, [9; 3]);
+    }
+    assert_eq!(refused(|| bits.true_among_into(&[0_u32, 1], &mut [0])), small(1, 2));
+    assert_eq!(bits.to_buf().true_among(&[2_u32, 1, 2]), Ok(vec![2, 2]));
+    assert_eq!(bits.to_buf().true_among_into(&[1_u32], &mut [0]), Ok(0));
+}

@@ -1,5 +1,5 @@
 -- The indices that two ascending lists have in common, found at their fronts.
-use Rattle.mask_bits.proofs.Common.{map, map-append, length-map, take-append-le, take_all, drop-append-le, common_steps, take-set_at, suc, append_assoc, append-nil, ◌≡◌, ℕ, ◌+◌, ◌<◌, ◌≤◌, false, nat_eq, nat_le, set, List, [], ◌∷◌, ◌++◌, length, get_or, take, drop, ◌||◌, ◌-◌, cond, refl, sym, ap, ap₂, subst, ◌∙◌, ◌⊎◌, inl, inr, arith, copy_within, list_any, take-paste, paste, IsStrictlyIncreasing, le-leb, lt-leb, eq-eqb, ne_eqb, cases_lt, cases_eq, cases_order, or-false, drop-set-lt, set-get_or, length-set, drop_more, length-drop, length-take, get_or-take, take-append-drop, take-set, take-take, get_or-drop, drop_all, drop-drop, get_or_default, All-head, All-tail, All-cons, All-weaker, filter-append, filter_more, list_any_none, list_any-append, list_any-from_Any, AllPairs-from_increasing, common, AreSplit, IsAt, IsFound, GoesOn, comes_to, All, Some, slice_get, get_or_from_slice_get, slice_get_within}
+use Rattle.mask_bits.proofs.Common.{filter, true, Bool, map, map-append, length-map, take-append-le, take_all, drop-append-le, common_steps, take-set_at, suc, append_assoc, append-nil, ◌≡◌, ℕ, ◌+◌, ◌<◌, ◌≤◌, false, nat_eq, nat_le, set, List, [], ◌∷◌, ◌++◌, length, get_or, take, drop, ◌||◌, ◌-◌, cond, refl, sym, ap, ap₂, subst, ◌∙◌, ◌⊎◌, inl, inr, arith, copy_within, list_any, take-paste, paste, IsStrictlyIncreasing, le-leb, lt-leb, eq-eqb, ne_eqb, cases_lt, cases_eq, cases_order, or-false, drop-set-lt, set-get_or, length-set, drop_more, length-drop, length-take, get_or-take, take-append-drop, take-set, take-take, get_or-drop, drop_all, drop-drop, get_or_default, All-head, All-tail, All-cons, All-weaker, filter-append, filter_more, list_any_none, list_any-append, list_any-from_Any, AllPairs-from_increasing, common, AreSplit, IsAt, IsFound, GoesOn, comes_to, All, Some, slice_get, get_or_from_slice_get, slice_get_within}
 use Rattle.mask_bits.proofs.Lists.Places.AscendingLemmas.{none-is, rises_to}
 use mir.Val.{bool_byte}
 
@@ -321,3 +321,23 @@ part-first f xs ys n len = grind (arith, map-append, take-append-le, take_all, l
 
 pub part-last : {X : Type 0} (f : X → ℕ) (xs ys : List X) (n : ℕ) → length xs ≡ n → map f ys ≡ drop n (map f (xs ++ ys))
 part-last f xs ys n len = grind (arith, map-append, drop-append-le, drop_all, length-map)
+
+-- ---- those of a list that pass a test
+
+-- a bool counts as one at most
+pub bool_byte-le : (b : Bool) → bool_byte b ≤ 1
+bool_byte-le true = omega arith
+bool_byte-le false = omega arith
+
+-- an item put behind those so far is one of them where it passes
+put-passing : {X : Type 0} (out found : List X) (n : ℕ) (x : X) (b : Bool) → n < length out → take n out ≡ found → take (n + bool_byte b) (set out n x) ≡ found ++ cond b (x ∷ []) []
+put-passing out found n x true room so_far = take-set_at out n (n + 1) x refl room ∙ ap (λ zs. zs ++ x ∷ []) so_far
+put-passing out found n x false room so_far = let same : n + 0 ≡ n = omega arith in ap (λ (m : ℕ). take m (set out n x)) same ∙ take-set out n x ∙ so_far ∙ sym (append-nil found)
+
+pub filtered-more : {X : Type 0} (f : X → Bool) (xs out : List X) (k n : ℕ) (x : X) → slice_get xs k ≡ Some x → n < length out → take n out ≡ filter f (take k xs)
+    → take (n + bool_byte (f x)) (set out n x) ≡ filter f (take (k + 1) xs)
+filtered-more f xs out k n x read room so_far =
+    let here : get_or xs k x ≡ x = get_or_from_slice_get xs k x x read in
+    put-passing out (filter f (take k xs)) n x (f x) room so_far
+    ∙ ap (λ z. filter f (take k xs) ++ cond (f z) (z ∷ []) []) (sym here)
+    ∙ sym (filter_more f xs k x (slice_get_within xs k x read))
