@@ -226,28 +226,72 @@ def callers(functions, called):
 
 
 class Edit:
-    """An edit: what it breaks, and its pairs of texts, old and new, behind their file; or its fault."""
+    """A mutation: what it breaks, and its pairs of texts, old and new, each after its file; or its fault.
 
-    def __init__(self, file):
-        self.name, self.breaks, self.pairs, self.fault = file.stem, [], [], None
-        path = old = None
-        for line in filter(str.strip, file.read_text().splitlines()):
+    Of a file of `edits`, `own` is the source that it stands beside, which each pair changes that no line `file` is for.
+    """
+
+    def __init__(self, file, name, lines, own=None):
+        self.file, self.name, self.breaks, self.pairs = file, name, [], []
+        self.crate, self.folder = file.relative_to(CRATES).parts[:2]
+        faults = ["its name is no word"] * (not re.fullmatch(r"\w+", name))
+        path, old = own, None
+        for line in lines:
             key, _, value = line.partition(": ")
-            if key == "breaks":
+            if key == "breaks" and not self.breaks:
                 self.breaks = re.findall(r"\S+(?: by \S+)?", value)
-            elif key == "file":
-                path = file.parents[1] / value.strip()
-            elif key == "old" and path:
+            elif key == "file" and CRATES / self.crate / value.strip() != own:
+                path = CRATES / self.crate / value.strip()
+            elif key == "old" and path and not old:
                 old = value
             elif key == "new" and old:
                 self.pairs.append((path, old, value))
-                old = None
+                path, old = own or path, None
             elif key != "why" or not value:
-                self.fault = f"its line `{line}` is none of an edit"
+                faults.append(f"its line `{line}` is none of an edit")
+        faults += ["its last `old` has no `new`"] * (old is not None) or ["it changes nothing"] * (not self.pairs)
+        faults += [f"there is no {path.relative_to(ROOT)}" for path, _, _ in self.pairs if not path.is_file()]
+        faults += [f"its first pair is not of {own.relative_to(ROOT)}" for it in self.pairs[:1] if own and it[0] != own]
+        self.fault = faults[0] if faults else None
 
 
-def edit_files(crate):
-    return sorted(CRATES.glob(f"{crate}/*/*.edit"), key=lambda it: it.stem)
+class Edits:
+    """A file of mutations: in `must-fail` one, as `rt ci` reads it, in `edits` all of one source, each after its name;
+    and the file's own faults."""
+
+    def __init__(self, file, kind=Edit):
+        crate, folder, *path = file.relative_to(CRATES).parts
+        self.file, self.edits, self.faults = file, [], []
+        lines = [it for it in file.read_text().splitlines() if it.strip()]
+        ending = ".edit" if folder == "must-fail" else ".edits"
+        self.faults += [f"its name does not end in `{ending}`"] * (file.suffix != ending)
+        if folder == "must-fail":
+            self.edits = [kind(file, file.stem, lines)]
+            return
+        own = CRATES.joinpath(crate, "src", *path).with_suffix(".rt")
+        starts = [at for at, line in enumerate(lines) if line.startswith("edit: ")]
+        for start, end in zip(starts, [*starts[1:], None]):
+            self.edits.append(kind(file, lines[start].removeprefix("edit: ").strip(), lines[start + 1 : end], own))
+        self.faults += [f"there is no {own.relative_to(ROOT)}"] * (not own.is_file())
+        self.faults += [f"`{line}` stands before any edit" for line in lines[: starts[0] if starts else None]]
+
+
+@cache
+def edits_files(crate, kind=Edit):
+    """The files of a crate's mutations. Of those that have one name the second has a fault."""
+    files = [it for folder in ("edits", "must-fail") for it in sorted(CRATES.glob(f"{crate}/{folder}/**/*"))]
+    found = [Edits(it, kind) for it in files if it.is_file()]
+    names = set()
+    for edit in (edit for it in found for edit in it.edits):
+        if edit.name in names:
+            edit.fault = "its name stands twice in the crate"
+        names.add(edit.name)
+    return found
+
+
+def edits_of(crate, kind=Edit):
+    """The mutations of a crate, by name."""
+    return sorted((edit for it in edits_files(crate, kind) for edit in it.edits), key=lambda it: it.name)
 
 
 def edited_as(name):
