@@ -32,28 +32,42 @@ class Function(namedtuple("Function", "file name path lines clauses contract who
     """
 
     @property
-    def words(self):
-        """The words of its body."""
-        return words_of(self.whole.split(self.contract)[-1])
+    def owner(self):
+        """Its type, or its module's name."""
+        return self.name.split("::")[0]
+
+    @property
+    def call(self):
+        return self.name.split("::")[1]
+
+    @property
+    def place(self):
+        """What no other function has."""
+        return self.file, self.lines
+
+    @property
+    def is_method(self):
+        return self.path[0].isupper()
 
     def named(self, *kinds):
         """The names of its clauses of these kinds."""
         return [name for name, (kind, _) in self.clauses.items() if kind in kinds]
 
-    def calls(self, other):
-        """Whether its body names the other. The function of a trait calls those that implement it."""
-        if other.is_of_trait:
-            return not self.is_of_trait and other.path.endswith(self.path)
-        return other.name.split("::")[1] in self.words
+    def calls(self):
+        """The names of functions in its body, each after what it is a call of: a path's last part, `self`, or `.` of
+        another value; nothing where it stands alone.
+
+        >>> code = "fn f(a: A) { a.len(); self.low(g(1), h); Mask::new::<u8>(a.now); map(Self::one, a[0].two::<K>()) }"
+        >>> for it in functions_in(Path("crates/c/src/lib.rt"), code): print(*sorted(it.calls()))
+        ('', 'g') ('', 'h') ('', 'map') ('.', 'len') ('.', 'two') ('Mask', 'new') ('Self', 'one') ('self', 'low')
+        """
+        body = blanked(self.whole.split(self.contract)[-1])
+        found = [(it or ".", name) for it, name in re.findall(r"(?:\b(self))?\s*\.\s*([a-z_]\w*)\s*(?=\(|::<)", body)]
+        found += re.findall(r"(\w+)(?:::<[^()]*?>)?>?::(?=([a-z_]\w*))", body)
+        return {*found, *(("", it) for it in re.findall(r"(?<![\w.:'])([a-z_]\w*)(?=\s*(?:[(,)]|::<))", body))}
 
     def stands_at(self, file, line):
         return self.file == file and self.lines[0] <= line <= self.lines[1]
-
-
-@cache
-def words_of(text):
-    """The words of code, but for those of its comments and strings."""
-    return {*re.findall(r"\w+", blanked(text))}
 
 
 def blanked(text):
@@ -204,25 +218,74 @@ def functions_of(crate):
     return [it for file in files for it in functions_in(file)]
 
 
-def callers(functions, called):
-    """The called functions, and those that call one of them, by way of private ones too.
+class Callers:
+    """Which functions call which, as far as their texts say: a type that a file can't know has no method there.
 
-    >>> code = "pub fn low() {} fn mid() { low() } pub fn high() { mid() } pub fn top() { high() } fn idle() {}"
+    >>> bodies = ["low() {}", "mid() { low() }", "high() { mid() }", "top() { high() }", "idle() { let low = 1; }"]
+    >>> code = "\\n".join(f"fn {it}" for it in bodies)
     >>> found = list(functions_in(Path("crates/c/src/lib.rt"), code))
-    >>> [it.name for it in callers(found, found[:1])]
-    ['lib::low', 'lib::mid', 'lib::high']
+    >>> [it.name for it in Callers(found).reaching(found[:1])]
+    ['lib::low', 'lib::mid', 'lib::high', 'lib::top']
     >>> code = "pub trait Put {\\n  fn put();\\n}\\nimpl Put for Word {\\n  fn put() { low() }\\n}\\nfn low() {}"
     >>> found = list(functions_in(Path("crates/c/src/lib.rt"), code))
-    >>> [it.name for it in callers(found, found[2:])]
-    ['lib::low', 'Word::put', 'Put::put']
+    >>> [it.name for it in Callers(found).reaching(found[2:])]
+    ['Put::put', 'Word::put', 'lib::low']
     """
-    found, left = list(called), list(called)
-    while left:
-        low = left.pop()
-        new = [it for it in functions if it.calls(low) and it not in found]
-        found += new
-        left += [it for it in new if not it.is_public]
-    return found
+
+    def __init__(self, functions):
+        self.functions, self.named, self.texts = functions, {}, {}
+        for it in functions:
+            self.named.setdefault(it.call, []).append(it)
+            if it.file not in self.texts:
+                self.texts[it.file] = it.file.read_text() if it.file.exists() else ""
+        # the words by which a type is known: those of its definition, and of its methods up to their clauses
+        self.words = {it.owner: set() for it in functions if it.is_method}
+        for it in (it for it in functions if it.is_method):
+            signature = re.split(r"\b(?:requires|ensures)\b", it.contract)[0]
+            self.words[it.owner].update(re.findall(r"\w+", signature))
+        for code in map(blanked, self.texts.values()):
+            for it in re.finditer(r"\b(?:struct|enum|trait) (\w+)[^;{]*[;{]", code):
+                end = closing(code, it.end() - 1) if it[0].endswith("{") else code.index(";", it.start())
+                self.words.setdefault(it[1], set()).update(re.findall(r"\w+", code[it.start() : end]))
+        self.known, self.callers = {it: self.known_by(it) for it in self.texts}, {}
+        for it in functions:
+            for called in self.called_by(it):
+                self.callers.setdefault(called.place, []).append(it)
+
+    def known_by(self, file):
+        """The types that a file's code names, and those by which these are known."""
+        left, found = [*self.words.keys() & re.findall(r"\w+", blanked(self.texts[file]))], set()
+        while left:
+            found.add(left[-1])
+            left += self.words[left.pop()] & self.words.keys() - found
+        return found
+
+    def called_by(self, function):
+        for before, name in function.calls():
+            found = self.named.get(name, ())
+            before = function.owner if before in ("self", "Self") else before
+            own = [it for it in found if it.owner == before]
+            if own:
+                yield from own
+            elif before in ("", "crate", "super"):
+                imported = {name for _, _, names in imports(self.texts[function.file]) for name in names}
+                yield from (it for it in found if not it.is_method and (it.file == function.file or name in imported))
+            else:
+                # (of a value, or of a type by a trait)
+                yield from (it for it in found if it.is_method and it.owner in self.known[function.file])
+        if not function.is_of_trait:
+            # (the function of a trait calls those that implement it)
+            yield from (it for it in self.named[function.call] if it.is_of_trait and it.path.endswith(function.path))
+
+    def reaching(self, called):
+        """The called functions, and those that call one of them, straight or by way of others."""
+        found = {it.place: it for it in called}
+        left = [*called]
+        while left:
+            new = [it for it in self.callers.get(left.pop().place, ()) if it.place not in found]
+            found |= {it.place: it for it in new}
+            left += new
+        return [it for it in self.functions if it.place in found]
 
 
 class Edit:
@@ -254,26 +317,52 @@ class Edit:
         faults += [f"its first pair is not of {own.relative_to(ROOT)}" for it in self.pairs[:1] if own and it[0] != own]
         self.fault = faults[0] if faults else None
 
+    def laid_over(self, texts):
+        """These texts of files, and those of the other files that it changes, with what it changes."""
+        texts = dict(texts)
+        for path, old, new in self.pairs:
+            text = texts.get(path) or path.read_text()
+            if text.count(old) != 1:
+                raise ValueError(f"its old text stands {text.count(old)} times in {path.name}: {old}")
+            texts[path] = text.replace(old, new)
+        return texts
+
+    def changed(self):
+        """The functions that it changes, or brings, as they then are."""
+        before = {(it.path, it.whole) for it in functions_of(self.crate)}
+        found = [it for path, text in self.laid_over({}).items() for it in functions_in(path, text)]
+        return [it for it in found if (it.path, it.whole) not in before]
+
 
 class Edits:
-    """A file of mutations: in `must-fail` one, as `rt ci` reads it, in `edits` all of one source, each after its name;
-    and the file's own faults."""
+    """A file of mutations: in `must-fail` one, as `rt ci` reads it, in `edits` all of one source, each after its name,
+    below the calls of this source that have none, by the reason; and the file's own faults."""
 
     def __init__(self, file, kind=Edit):
         crate, folder, *path = file.relative_to(CRATES).parts
-        self.file, self.edits, self.faults = file, [], []
+        self.file, self.edits, self.without, self.faults = file, [], [], []
         lines = [it for it in file.read_text().splitlines() if it.strip()]
         ending = ".edit" if folder == "must-fail" else ".edits"
         self.faults += [f"its name does not end in `{ending}`"] * (file.suffix != ending)
         if folder == "must-fail":
             self.edits = [kind(file, file.stem, lines)]
             return
-        own = CRATES.joinpath(crate, "src", *path).with_suffix(".rt")
+        self.source = own = CRATES.joinpath(crate, "src", *path).with_suffix(".rt")
         starts = [at for at, line in enumerate(lines) if line.startswith("edit: ")]
         for start, end in zip(starts, [*starts[1:], None]):
             self.edits.append(kind(file, lines[start].removeprefix("edit: ").strip(), lines[start + 1 : end], own))
         self.faults += [f"there is no {own.relative_to(ROOT)}"] * (not own.is_file())
-        self.faults += [f"`{line}` stands before any edit" for line in lines[: starts[0] if starts else None]]
+        names = None
+        for line in lines[: starts[0] if starts else None]:
+            key, _, value = line.partition(": ")
+            if key == "without" and not names:
+                names = value.split(", ")
+            elif key == "why" and names:
+                self.without.append((names, value))
+                names = None
+            else:
+                self.faults.append(f"its line `{line}` stands before any edit")
+        self.faults += ["its last `without` has no `why`"] * bool(names)
 
 
 @cache
@@ -306,6 +395,71 @@ def edited_as(name):
     names = {name.split("::")[1], name.replace("::", "_")}
     names |= {re.sub(r"(_\d+)?(_by_\d+)?$", "", it.removeprefix("row_mask_")) for it in names}
     return {re.sub(r"(?<=[a-z])(?=[A-Z])", "_", it).lower() for it in names}
+
+
+@cache
+def command_words(crate):
+    """The words of a program's sources that may be its commands; none of a library."""
+    sources = (CRATES / crate / "src").rglob("*.rt") if (CRATES / crate / "src/main.rt").exists() else ()
+    return {word for it in sources for word in re.findall(r'"([a-z]+)"', it.read_text())}
+
+
+def credited_as(edit, function):
+    """How many letters of a mutation's name are the name of the function, or a command of the program."""
+    names = edited_as(function.name) | command_words(edit.crate)
+    return max((len(it) for it in names if edit.name.startswith(f"{it}_")), default=0)
+
+
+@cache
+def credits(crate):
+    """The mutations of each function, by its place: those that change it and, of a public call, those that begin with
+    its name and change a function that it reaches. Of several names the longest counts."""
+    functions, found = functions_of(crate), {}
+    callers = Callers(functions)
+    for edit in (it for it in edits_of(crate) if not it.fault):
+        names = {(it.file, it.path) for it in edit.changed()}
+        changed = [it for it in functions if (it.file, it.path) in names]
+        named = {it.place: credited_as(edit, it) for it in callers.reaching(changed) if it.is_public}
+        longest = max([1, *named.values()])
+        places = {it.place for it in changed} | {it for it, letters in named.items() if letters == longest}
+        for place in places:
+            found.setdefault(place, []).append(edit)
+    return found
+
+
+@cache
+def exported_types(crate):
+    """The types that a library's root exports, and its module of rank intersection."""
+    roots = (it for it in (CRATES / crate / "src").glob("*.rt") if it.stem in ("lib", "intersect_by_rank"))
+    uses = (use for it in roots for use in re.findall(r"^pub use [^;]*", it.read_text(), re.M))
+    return [it for use in uses for it in re.findall(r"\b[A-Z]\w*", use)]
+
+
+@cache
+def public_calls(crate):
+    """The public functions but laws, and those of exported types by traits, of which the impl says what holds."""
+    found = [it for it in functions_of(crate) if it.owner != "laws"]
+    return [it for it in found if it.is_public or it.owner in exported_types(crate) and it.named("ghost")]
+
+
+def comment_of(function):
+    """Its comment, without the marks for the Rust that is made of it."""
+    return " ".join(" ".join(re.findall(r"^//+ ?(?! ?rust: )(.*)", function.whole, re.M)).split())
+
+
+def purpose_of(function, ends=".:"):
+    """How its comment begins."""
+    return re.split(rf"[{ends}](?:\s|$)", comment_of(function))[0].replace("|", r"\|") or "-"
+
+
+def subject_of(file):
+    """The first sentence of a module's comment, or the module's name."""
+    comment = " ".join(re.findall(r"//! (.*)", re.match(r"(?://!.*\n)*", file.read_text())[0]))
+    return re.split(r"[.](?:\s|$)", comment)[0] or file.stem
+
+
+def quoted(names):
+    return ", ".join(f"`{it}`" for it in names) or "-"
 
 
 @cache
