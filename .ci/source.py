@@ -1,4 +1,4 @@
-"""What the scripts share: reads Rust with contracts, spec files and edits, finds and builds programs, and counts.
+"""What the scripts share: reads Rust with contracts, spec files and mutations, finds and builds programs, and counts.
 
 `.ci/docs` runs the examples in it.
 """
@@ -315,6 +315,11 @@ class Edit:
         faults += ["its last `old` has no `new`"] * (old is not None) or ["it changes nothing"] * (not self.pairs)
         faults += [f"there is no {path.relative_to(ROOT)}" for path, _, _ in self.pairs if not path.is_file()]
         faults += [f"its first pair is not of {own.relative_to(ROOT)}" for it in self.pairs[:1] if own and it[0] != own]
+        try:
+            if not faults:
+                self.laid_over({})
+        except ValueError as why:
+            faults.append(str(why))
         self.fault = faults[0] if faults else None
 
     def laid_over(self, texts):
@@ -384,8 +389,8 @@ def edits_of(crate, kind=Edit):
 
 
 def edited_as(name):
-    """What the names of a function's edits may begin with: its own, with its type or module or without. Of an export to
-    C they may leave out how all names begin, and the sizes of a row and of an index.
+    """What the names of a function's mutations may begin with: its own, with its type or module or without. Of an
+    export to C they may leave out how all names begin, and the sizes of a row and of an index.
 
     >>> sorted(edited_as("BitBuffer::len"))
     ['bit_buffer_len', 'len']
@@ -404,14 +409,14 @@ def command_words(crate):
     return {word for it in sources for word in re.findall(r'"([a-z]+)"', it.read_text())}
 
 
-def credited_as(edit, function):
+def letters_of(edit, function):
     """How many letters of a mutation's name are the name of the function, or a command of the program."""
     names = edited_as(function.name) | command_words(edit.crate)
     return max((len(it) for it in names if edit.name.startswith(f"{it}_")), default=0)
 
 
 @cache
-def credits(crate):
+def credited(crate):
     """The mutations of each function, by its place: those that change it and, of a public call, those that begin with
     its name and change a function that it reaches. Of several names the longest counts."""
     functions, found = functions_of(crate), {}
@@ -419,7 +424,7 @@ def credits(crate):
     for edit in (it for it in edits_of(crate) if not it.fault):
         names = {(it.file, it.path) for it in edit.changed()}
         changed = [it for it in functions if (it.file, it.path) in names]
-        named = {it.place: credited_as(edit, it) for it in callers.reaching(changed) if it.is_public}
+        named = {it.place: letters_of(edit, it) for it in callers.reaching(changed) if it.is_public}
         longest = max([1, *named.values()])
         places = {it.place for it in changed} | {it for it, letters in named.items() if letters == longest}
         for place in places:
