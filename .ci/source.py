@@ -369,6 +369,16 @@ class Edits:
                 self.faults.append(f"its line `{line}` stands before any edit")
         self.faults += ["its last `without` has no `why`"] * bool(names)
 
+    def in_order(self):
+        """Its text, with the mutations in the order in which the first texts that they change stand in the source."""
+        head, *parts = re.split(r"^(?=edit: )", self.file.read_text(), flags=re.M)
+        if self.faults or not parts or any(it.fault for it in self.edits):
+            return self.file.read_text()
+        source = self.source.read_text()
+        places = {it.name: source.index(it.pairs[0][1]) for it in self.edits}
+        parts.sort(key=lambda it: places[it.split()[1]])
+        return "\n\n".join(it.strip("\n") for it in (head, *parts) if it) + "\n"
+
 
 @cache
 def edits_files(crate, kind=Edit):
