@@ -1,7 +1,7 @@
 //! The true values of a bitmap, read once for many columns.
 
 use crate::bitmap::room::{
-    append_to, as_cells, as_items, as_places, first_of, list_of, made, reserve,
+    append_rows, as_cells, as_items, as_places, first_of, list_of, made, reserve, rows_of,
 };
 use crate::native::{OF_A_RUN, choose_several, copy_runs};
 use crate::proved::mask_bits::SetSlices;
@@ -180,7 +180,7 @@ impl Selection {
     pub fn choose<T: Row>(&self, rows: &[T]) -> Result<Vec<T>, Error> {
         self.has_one_for_each(rows.len())?;
         // SAFETY: there is a row for each value, and a place for each true one, which is written.
-        unsafe { list_of(self.count, |out| self.choose_to(rows, out)) }
+        unsafe { rows_of(self.count, |out, _| self.choose_to(rows, out)) }
     }
 
     /// As [`choose`](Self::choose), behind the items of a list.
@@ -190,7 +190,7 @@ impl Selection {
     pub fn choose_append<T: Row>(&self, rows: &[T], list: &mut Vec<T>) -> Result<(), Error> {
         self.has_one_for_each(rows.len())?;
         // SAFETY: there is a row for each value, and a place for each true one, which is written.
-        unsafe { append_to(list, self.count, |out| self.choose_to(rows, out)) }
+        unsafe { append_rows(list, self.count, |out, _| self.choose_to(rows, out)) }
     }
 
     /// As [`choose`](Self::choose), to the front of `out`.
@@ -210,10 +210,11 @@ impl Selection {
         self.as_bitmap().has_one_for_each(rows)
     }
 
-    // Writes each place. There is a row for each value, and a place for each true one.
+    // Writes a place for each true value, and maybe others behind these. There is a row for each value.
     fn choose_to<T: Row>(&self, rows: &[T], out: &mut [MaybeUninit<T>]) {
+        let chunks = self.as_bitmap().chunks();
         // SAFETY: this is what is asked there too. A row is plain bytes.
-        if self.is_dense() && unsafe { choose_several(rows, &self.as_bitmap().chunks(), out) } {
+        if self.is_dense() && unsafe { choose_several(rows, &chunks, out, self.count) } {
             return;
         }
         let cells = as_cells(rows);
@@ -221,7 +222,7 @@ impl Selection {
             Kept::Word(word) => push_rows_one_by_one(&mut Lent { out, at: 0 }, cells, *word),
             Kept::Runs(runs) => copy_runs(cells, runs.iter().map(|run| run.0..run.1), out),
             // (each is the index of a true value, and there is a row for each value)
-            Kept::Indices(indices) => mask_c::rows_at(indices, cells, out),
+            Kept::Indices(indices) => mask_c::rows_at(indices, cells, &mut out[..self.count]),
         }
     }
 

@@ -1,6 +1,6 @@
 //! Rows and values chosen at the true values.
 
-use super::room::{append_to, as_places, first_of, list_of, made};
+use super::room::{append_rows, as_places, first_of, made, rows_of};
 use crate::native::choose_rows_by_size;
 use crate::proved::mask_c;
 use crate::{Bitmap, BitmapBuf, Error, Room, Row};
@@ -56,7 +56,7 @@ impl Bitmap<'_> {
     pub fn choose<T: Row>(self, rows: &[T]) -> Result<Vec<T>, Error> {
         self.has_one_for_each(rows.len())?;
         // SAFETY: there is a row for each value, and a place for each true one, which is written.
-        unsafe { list_of(self.count(), |out| self.choose_to(rows, out)) }
+        unsafe { rows_of(self.count(), |out, count| self.choose_to(rows, out, count)) }
     }
 
     /// As [`choose`](Self::choose), behind the items of a list.
@@ -66,7 +66,7 @@ impl Bitmap<'_> {
     pub fn choose_append<T: Row>(self, rows: &[T], list: &mut Vec<T>) -> Result<(), Error> {
         self.has_one_for_each(rows.len())?;
         // SAFETY: there is a row for each value, and a place for each true one, which is written.
-        unsafe { append_to(list, self.count(), |out| self.choose_to(rows, out)) }
+        unsafe { append_rows(list, self.count(), |out, count| self.choose_to(rows, out, count)) }
     }
 
     /// As [`choose`](Self::choose), to the front of `out`, and answers how many rows these are.
@@ -76,10 +76,11 @@ impl Bitmap<'_> {
     /// fewer items than rows are chosen.
     pub fn choose_into<T: Row>(self, rows: &[T], out: &mut [T]) -> Result<usize, Error> {
         self.has_one_for_each(rows.len())?;
-        let out = first_of(out, self.count())?;
+        let count = self.count();
+        let out = first_of(out, count)?;
         // SAFETY: just rows are written, one to each place.
-        unsafe { self.choose_to(rows, as_places(out)) };
-        Ok(out.len())
+        unsafe { self.choose_to(rows, as_places(out), count) };
+        Ok(count)
     }
 
     // Tests that there is a row for each value.
@@ -87,9 +88,9 @@ impl Bitmap<'_> {
         Error::RowsDiffer { rows, len: self.len }.unless(rows == self.len)
     }
 
-    // Writes each place. There is a row for each value, and just as many places as values are true.
-    fn choose_to<T: Row>(self, rows: &[T], out: &mut [MaybeUninit<T>]) {
+    // Writes the first `count` places. There is a row for each value, and just so many are true.
+    fn choose_to<T: Row>(self, rows: &[T], out: &mut [MaybeUninit<T>], count: usize) {
         // SAFETY: this is what is asked there too. A row is plain bytes.
-        unsafe { choose_rows_by_size(rows, self.chunks(), out) }
+        unsafe { choose_rows_by_size(rows, self.chunks(), out, count) }
     }
 }

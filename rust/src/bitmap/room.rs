@@ -1,6 +1,7 @@
 //! What a bitmap can be written into.
 
 use crate::kit::List;
+use crate::native::MORE;
 use crate::proved::mask_c;
 use crate::{BitmapBuf, Error};
 use alloc::vec::Vec;
@@ -160,6 +161,41 @@ pub(crate) unsafe fn append_to<T>(
     // SAFETY: so many places were reserved, and are written.
     unsafe { list.set_len(list.len() + count) };
     Ok(())
+}
+
+/// The same of rows that are chosen: what writes them gets all that the list has room for, and their number.
+///
+/// # Safety
+/// `fill` writes the first places, so many.
+#[inline]
+pub(crate) unsafe fn append_rows<T>(
+    list: &mut Vec<T>,
+    count: usize,
+    fill: impl FnOnce(&mut [MaybeUninit<T>], usize),
+) -> Result<(), Error> {
+    reserve(list, count)?;
+    fill(list.spare_capacity_mut(), count);
+    // SAFETY: so many places were reserved, and are written.
+    unsafe { list.set_len(list.len() + count) };
+    Ok(())
+}
+
+/// A list of just such rows, with room for some more.
+///
+/// # Safety
+/// As above.
+#[inline]
+pub(crate) unsafe fn rows_of<T>(
+    count: usize,
+    fill: impl FnOnce(&mut [MaybeUninit<T>], usize),
+) -> Result<Vec<T>, Error> {
+    let mut list = Vec::new();
+    if count > 0 {
+        reserve(&mut list, count.saturating_add(MORE))?;
+    }
+    // SAFETY: this is what is asked here too.
+    unsafe { append_rows(&mut list, count, fill)? };
+    Ok(list)
 }
 
 /// A list of just such items.

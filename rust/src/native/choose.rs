@@ -49,23 +49,27 @@ const OF_A_LONG_RUN: usize = 48;
 /// To copy a run at once pays where runs have so many values, taken together. Fewer take less time one by one.
 pub(crate) const OF_A_RUN: usize = 24;
 
-/// Writes the rows at the true values to their places.
+/// A list of chosen rows is made with room for so many more: several are moved at once, of which the last may be any.
+pub(crate) const MORE: usize = 16;
+
+/// Writes the rows at the true values, which are `count`, to the front of `out`. What is behind them may be written too.
 ///
 /// # Safety
-/// There is a row for each value, and a place for each true one. A row is plain bytes, each of them written.
+/// There is a row for each value, so many are true, and each has a place. A row is plain bytes, each of them written.
 pub(crate) unsafe fn choose_rows_by_size<T: Copy>(
     rows: &[T],
     chunks: BitChunks<'_>,
     out: &mut [MaybeUninit<T>],
+    count: usize,
 ) {
-    let (len, count) = (rows.len(), out.len());
+    let len = rows.len();
     // (between two runs there is a false value at least)
     let of_a_run = if len > ANY_LEVEL { OF_A_LONG_RUN } else { OF_A_RUN };
     let has_long_runs = (len - count).saturating_mul(of_a_run) <= count;
     let has_many = count >= len / ONE_TRUE_IN;
     let is_small = size_of::<T>() <= 4 || !has_long_runs;
     // SAFETY: this is what is asked here too.
-    if has_many && is_small && unsafe { choose_several(rows, &chunks, out) } {
+    if has_many && is_small && unsafe { choose_several(rows, &chunks, out, count) } {
         return;
     }
     let by_four =
@@ -89,13 +93,14 @@ pub(crate) unsafe fn choose_several<T: Copy>(
     rows: &[T],
     chunks: &BitChunks<'_>,
     out: &mut [MaybeUninit<T>],
+    count: usize,
 ) -> bool {
     // SAFETY: a row is as many bytes as stand here, and this is asked here too.
     unsafe {
         match size_of::<T>() {
             1 if moves_bytes() => move_as::<FEW_BYTES, u8, Moved, T>(rows, chunks, out),
             #[cfg(target_arch = "x86_64")]
-            size @ (2 | 4 | 8) => return move_wider(size, rows, chunks, out),
+            size @ (2 | 4 | 8) => return move_wider(size, rows, chunks, out, count),
             _ => return false,
         }
     }
@@ -113,8 +118,9 @@ unsafe fn move_wider<T: Copy>(
     rows: &[T],
     chunks: &BitChunks<'_>,
     out: &mut [MaybeUninit<T>],
+    count: usize,
 ) -> bool {
-    let is_dense = is_dense(rows.len(), out.len());
+    let is_dense = is_dense(rows.len(), count);
     // SAFETY: this is what is asked here too.
     unsafe {
         if rows.len() > FEW_VALUES && (size < 8 || is_dense) && compresses() {
@@ -202,7 +208,7 @@ unsafe fn as_byte_rows<'a, T: Copy, B: Copy>(
     }
 }
 
-/// Puts the rows at the true values into an empty list with room for just these, which are so many. It stands in the place
+/// Puts the rows at the true values into an empty list with room for these, which are so many. It stands in the place
 /// of the proved function of this name, to which it leaves rows that aren't known to be plain bytes.
 pub(crate) fn put_chosen_rows<T: Copy>(
     list: &mut Vec<T>,
@@ -213,11 +219,11 @@ pub(crate) fn put_chosen_rows<T: Copy>(
     if !is_number::<T>() {
         return choose::put_chosen_rows(list, rows, buffer, count);
     }
-    let out = &mut list.spare_capacity_mut()[..count];
+    let out = list.spare_capacity_mut();
     // SAFETY: a number is plain bytes. There is a row for each value, and just so many are true, as the proved function is
-    // called. So each place is written.
+    // called. So as many places are written.
     unsafe {
-        choose_rows_by_size(rows, buffer.chunks(), out);
+        choose_rows_by_size(rows, buffer.chunks(), out, count);
         list.set_len(count);
     }
 }

@@ -438,9 +438,11 @@ fn lists_that_find_no_memory() {
     let column = vec![0_usize; 80 << 20];
     let all = BitmapBuf::all_true(column.len());
     let bytes = 8 * column.len();
-    let lacking = Error::OutOfMemory { bytes };
+    // (a list of rows has room for sixteen more)
+    let lacking = Error::OutOfMemory { bytes: bytes + 8 * 16 };
     assert_eq!(all.as_bitmap().choose(&column).unwrap_err(), lacking);
     assert_eq!(Selection::new(all.as_bitmap()).choose(&column).unwrap_err(), lacking);
+    let lacking = Error::OutOfMemory { bytes };
     assert_eq!(all.as_bitmap().counts_below(&column).unwrap_err(), lacking);
     let (mut list, lacking) = (vec![7, 9], Error::OutOfMemory { bytes: bytes + 16 });
     let selection = Selection::new(all.as_bitmap());

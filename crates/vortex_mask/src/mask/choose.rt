@@ -16,6 +16,9 @@ use std::mem::size_of_val;
 // takes longer than a branch that is guessed wrong.
 const FAR: usize = 256;
 
+// Room for so many rows more than are chosen, since several are put at once, of which the last may be any.
+const MORE: usize = 16;
+
 /// Choosing rows.
 #[tactic(auto, using(crate::proofs::Masks::MaskLemmas::chosen_value_facts, crate::proofs::Masks::MaskLemmas::count_facts))]
 impl Mask {
@@ -35,7 +38,7 @@ impl Mask {
             Mask::AllFalse(_) => Ok(Vec::new(alloc)),
             Mask::Values(values) => {
                 let (buffer, true_count) = (values.bit_buffer(), values.true_count());
-                let mut chosen_rows = Vec::with_capacity(alloc, true_count)?;
+                let mut chosen_rows = Vec::with_capacity(alloc, true_count.saturating_add(MORE))?;
                 put_chosen_rows(&mut chosen_rows, rows, buffer, true_count);
                 Ok(chosen_rows)
             }

@@ -13,9 +13,6 @@ const FULL: u64 = u64::MAX;
 // guessed wrong.
 const MOST_BYTES: usize = 65 * 32;
 
-// Room for the rows of a word, and for four more.
-const ROOM: usize = 64 + 4;
-
 /// Puts the rows at the set bits of a word into room for these: `K` at a time where there is room to spare, and
 /// what is put past them is dropped, so that few branches go by how many bits a word has; one after another where
 /// `K` is 0, which takes less time where few bits are set. `K` at a time takes a row behind those of the word, which
@@ -31,8 +28,8 @@ pub(crate) fn push_rows_of_word<const K: usize, T: Copy, R: Room<T>>(
     } else if K == 0
         || rows.len() == 64
         || size_of_val(rows) > MOST_BYTES
-        || out.spare() < ROOM
         || word == 0
+        || out.spare() < word.count_ones() as usize + K
     {
         push_rows_one_by_one(out, rows, word);
     } else {

@@ -12,6 +12,9 @@ use ::core::mem::size_of_val;
 // takes longer than a branch that is guessed wrong.
 const FAR: usize = 256;
 
+// Room for so many rows more than are chosen, since several are put at once, of which the last may be any.
+const MORE: usize = 16;
+
 /// Choosing rows.
 impl Mask {
     /// The rows at the true indices, in their order.
@@ -46,7 +49,7 @@ impl Mask {
             Mask::AllFalse(_) => Ok(Vec::new()),
             Mask::Values(values) => {
                 let (buffer, true_count) = (values.bit_buffer(), values.true_count());
-                let mut chosen_rows = Vec::with_room(true_count)?;
+                let mut chosen_rows = Vec::with_room(true_count.saturating_add(MORE))?;
                 crate::native::put_chosen_rows(&mut chosen_rows, rows, buffer, true_count);
                 Ok(chosen_rows)
             }
