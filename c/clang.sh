@@ -4,7 +4,7 @@
 # these. Loops begin at blocks of 32 bytes and, for x86-64, no branch crosses one, since on some processors a short loop
 # takes longer where it happens to lie otherwise.
 #
-#   c/clang CLANG ARGUMENT..
+#   c/clang.sh CLANG ARGUMENT..
 set -eu
 clang=$1
 shift

@@ -3,7 +3,7 @@
 objects in one process, each with a version of its own, don't call each other's functions. Each global name that a library
 defines gets the visibility that a compiler gives by `-fvisibility=hidden`, and no other byte is changed.
 
-    c/hide LIBRARY..
+    c/hide.py LIBRARY..
 """
 import struct
 import sys

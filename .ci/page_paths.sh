@@ -2,7 +2,7 @@
 # Sees that a release's page names no path that the release lacks: each word in backquotes that has a `/`, but what
 # cargo makes in `target`.
 #
-#   .ci/page_paths PAGE FOLDER ..   of which a path may be in any
+#   .ci/page_paths.sh PAGE FOLDER ..   of which a path may be in any
 set -eu
 status=0
 prose=$(sed '/^```/,/^```$/d' "$1")
