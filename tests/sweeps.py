@@ -50,7 +50,7 @@ def spread(rows, first, second=("bools:",)):
 
 def row(names, a, operand, b=None, numbers=()):
     """Calls that answer the same of a mask, and what else their words say."""
-    others = [f"%{text(b.values)}"] if b else []
+    others = [("" if names == "and_rows" else "%") + text(b.values)] if b else []
     others += [list_text(numbers)] if names in ("choose", "valid_counts_for_indices") else map(str, numbers)
     return f"{names} {' '.join([operand, *others])} => {answer(names.split(',')[0], a, b, numbers)}"
 
@@ -62,7 +62,7 @@ def calls(a, operand):
     yield from (row(names, a, operand) for names in ALONE)
     yield row("valid_counts_for_indices", a, operand, numbers=range(length + 1))
     yield row("choose", a, operand, numbers=range(length))
-    for names in ("bitand,into_bitand", "bitor,into_bitor", "to_bitand_not,bitand_not", "choose_values"):
+    for names in ("bitand,into_bitand", "bitor,into_bitor", "to_bitand_not,bitand_not", "choose_values", "and_rows"):
         yield row(names, a, operand, mask(values[::-1]))
     last = max(length - 1, 0)
     for other in [values, *(negated_at(values, i) for i in (0, last // 2, last))]:
@@ -73,7 +73,7 @@ def calls(a, operand):
         yield row("limit,to_limited", a, operand, numbers=[k])
         yield row("without_first", a, operand, numbers=[k])
     for it in [(0, length), (0, length // 3), (length // 3, length), (length // 5, length // 2), (length, length)]:
-        yield row("slice", a, operand, numbers=it)
+        yield from (row(name, a, operand, numbers=it) for name in ("slice", "count_range"))
     yield from (row("groups", a, operand, numbers=[it]) for it in (65, max(length // 3, 1), MAX))
     for it in thresholds(a):
         yield row("threshold_iter", a, operand, numbers=it)
@@ -120,6 +120,7 @@ def masks(length, start):
     values = one_drawn(length, ODD)
     if start == 0:
         yield from by_constructors(values, calls_and_walks)
+        yield f"from_unsorted_indices {length} {list_text(indices(values)[::-1])} => {mask_text(mask(values))}"
     yield from spread(calls_and_walks(mask(values), "@" + text(values)), at(range(start, start + 32)))
 
 
@@ -172,6 +173,9 @@ def buffer_reads(values, operand):
     yield f"bits.set_slices {operand} => {' '.join(['ranges', *ranges(values)])}"
     yield f"bits.runs {operand} => {list_text(ranges(values))}"
     for start in {0, 1, length // 3, 63, 64, length}:
+        for value in "01" if start <= length else "":
+            first = values.find(value, start)
+            yield f"bits.first_from {operand} {start} {value} => {first if first >= 0 else length}"
         for end in {0, 8, length // 2, 64, 65, length}:
             if start <= end <= length:
                 yield f"bits.count_range {operand} {start} {end} => {values[start:end].count('1')}"
@@ -203,6 +207,7 @@ def buffer_pairs(a, b):
     left, right = "@" + text(a), "%" + text(b)
     for name in OPERATIONS:
         yield f"bits.{name},bits.into_{name} {left} {right} => {text(combined(name, a, b))}"
+    yield f"bits.and_rows {left} {text(b)} => {text(combined('bitand', a, b))}"
     yield f"bits.choose_values {left} {right} => {text(at_rows(a, b))}"
     yield f"bits.equal {left} {right} => {flag(a == b)}"
 
@@ -311,6 +316,7 @@ def nullable_pairs(length):
         yield f"nullable.is_true {x} => {text(a.replace('?', '0'))}"
         yield f"nullable.is_not_false {x} => {text(a.replace('?', '1'))}"
         yield f"nullable.is_null {x} => {text(''.join(str(int(it == '?')) for it in a))}"
+        yield f"nullable.len {x} => {length}"
         yield f"nullable.null_count {x} => {a.count('?')}"
         yield f"from_nullable {x} => {mask_text(mask(a.replace('?', '0')))}"
 
@@ -391,3 +397,15 @@ SECTIONS = {
     "runs": ([()], runs),
     "densities": ([(length, it) for length in (4_096, 1_000, 65, 64, 63, 1) for it in THRESHOLDS], densities),
 }
+# A short share of each section, which has each call of it.
+SHORT = {
+    "long masks": (65,), "long buffers": (65,), "long kernels": (65, 3, 2), "many masks": (3,), "masks": (65, 0),
+    "masks of one value": (1,), "buffers": (9,), "boolean calls": (9,), "nulls": (9,), "builders": (1,), "words": (0, 7),
+    "runs": (), "densities": (65, 512),
+}
+
+
+def names():
+    """The names of the calls that the sections make."""
+    rows = (row for section, (_, rows_of) in SECTIONS.items() for row in rows_of(*SHORT[section]))
+    return {name for row in rows for name in row.split(" ")[0].split(",")}

@@ -63,6 +63,7 @@ fn mask_parts(name: &str, o: &mut Operands, text: &mut Text) -> Found {
         "to_limited" (a m) => a.to_limited(alloc, m),
         "without_first" (a m) => a.without_first(alloc, m),
         "slice" (a m n) [m <= n && n <= a.len(), "a range within the mask"] => a.slice(alloc, m, n),
+        "count_range" (a m n) [m <= n && n <= a.len(), "a range within the mask"] => a.count_range(m, n),
         "groups" (a n) [n > 0, "groups of some rows"] => a.groups(alloc, n),
     }
 }

@@ -60,6 +60,7 @@ fn mask_parts(name: &str, o: &mut Operands, text: &mut Text) -> Found {
         "to_limited" (a m) => a.try_to_limited(m),
         "without_first" (a m) => a.try_without_first(m),
         "slice" (a m n) [m <= n && n <= a.len(), "a range within the mask"] => a.try_slice(m, n),
+        "count_range" (a m n) [m <= n && n <= a.len(), "a range within the mask"] => a.count_range(m, n),
         "groups" (a n) [n > 0, "groups of some rows"] => a.try_groups(n),
     }
 }

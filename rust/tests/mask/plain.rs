@@ -67,6 +67,13 @@ fn calls_are_as_those_that_may_refuse() {
             same(mask.clone().bitand_not(&other), mask.clone().try_bitand_not(&other));
             same(mask.choose_values(&other), mask.try_choose_values(&other));
             same(mask.choose(&list), mask.try_choose(&list));
+            let rows: Vec<usize> = (0..len).collect();
+            let is_third = |row: &usize| row % 3 == 1;
+            same(mask.and_rows(&rows, is_third), mask.try_and_rows(&rows, is_third));
+            let bits = mask.to_bit_buffer();
+            same(bits.and_rows(&rows, is_third), bits.try_and_rows(&rows, is_third));
+            let both = || [mask.clone(), other.clone()];
+            same(Mask::from_masks(both()), Mask::try_from_masks(both()));
             same(mask.groups(3), mask.try_groups(3));
             same(mask.to_bit_buffer(), mask.try_to_bit_buffer());
             same(mask.clone().into_bit_buffer(), mask.clone().try_into_bit_buffer());
@@ -104,6 +111,13 @@ fn ranges_are_alike(mask: &Mask) {
         }
     }
     assert_eq!(mask.slice(..), *mask);
+}
+
+#[test]
+fn what_is_borrowed_is_cloned_alike() {
+    for borrowed in [AllOr::All, AllOr::None, AllOr::Some(&3_usize)] {
+        same(borrowed.cloned(), borrowed.try_cloned());
+    }
 }
 
 fn lists_are_alike(mask: &Mask) {
