@@ -1,6 +1,5 @@
 """What is left of the items of a source when contracts are taken out."""
 import collections
-import copy
 import re
 
 from erasing import marks

@@ -2,7 +2,6 @@
 import re
 
 from erasing import marks
-from erasing.marks import Marks
 from erasing.tokens import TOKEN
 
 # What x86-64-v3 has above plain x86-64, as far as loops gain by it.
@@ -17,6 +16,7 @@ def levelled(function, of, body, marked):
     """The body that goes to the function for the processor, and the functions that it goes to.
 
     >>> from erasing.items import Function
+    >>> from erasing.marks import Marks
     >>> from erasing.tokens import Source
     >>> source = Source("fn f(a: u8) {}")
     >>> made, more = levelled(Function(source, 0, len(source.tokens) - 3), None, "{ g(a) }", Marks(["level"]))
