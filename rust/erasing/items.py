@@ -15,6 +15,8 @@ GENERIC = r"(?:\s*<(?:[^<>]|<[^<>]*>|->)*>)?"
 MARKED = {
     "fn": r"(?!lawful)", "mod": r"visible|replaced by", "impl": r"by hand", "trait": r"lawful", "struct": r"by instruction",
 }
+# Methods that return a `Result` under the names that the Rust crate has.
+WITH_RESULT = {"Mask::concat"}
 # What serves the other crates of the repository alone, which are one package here.
 HIDDEN = "#[doc(hidden)]\n"
 DROP = re.compile(r"\s*\+\s*Drop\b|:\s*Drop\b")
@@ -409,6 +411,9 @@ impl ::core::error::Error for {name} {{}}
                 function, more_names = self.kept_name(j, function, context, clauses)
             else:
                 public = marked.named
+        elif kind == "impl" and self.is_public(function, context) and "-> Result<" in function.tail:
+            if where not in WITH_RESULT:
+                self.source.fault(j, f"{where} returns a `Result`, and has no mark as `// rust: named try_{function.name}`")
         public = public or function.name
         if marked.has("by hand"):
             if kind != "impl":

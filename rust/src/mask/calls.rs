@@ -45,6 +45,13 @@ impl Mask {
     }
 
     /// As [`limit`](Mask::limit), of a mask that is only borrowed.
+    ///
+    /// ```
+    /// use row_mask::Mask;
+    ///
+    /// let mask = Mask::from_indices(6, [0, 2, 3]);
+    /// assert_eq!(mask.to_limited(2), Mask::from_indices(6, [0, 2]));
+    /// ```
     #[inline]
     #[must_use]
     pub fn to_limited(&self, limit: usize) -> Mask {
@@ -88,6 +95,13 @@ impl Mask {
 
     /// As [`bitand_not`](Mask::bitand_not), of a mask that is only borrowed.
     ///
+    /// ```
+    /// use row_mask::Mask;
+    ///
+    /// let (mask, other) = (Mask::from_indices(6, [0, 2, 3]), Mask::from_indices(6, [2, 5]));
+    /// assert_eq!(mask.to_bitand_not(&other), Mask::from_indices(6, [0, 3]));
+    /// ```
+    ///
     /// # Panics
     /// Where the lengths differ.
     #[inline]
@@ -128,6 +142,14 @@ impl Mask {
     }
 
     /// As [`intersect_by_rank`](Mask::intersect_by_rank), with the steps that its kernel took.
+    ///
+    /// ```
+    /// use row_mask::Mask;
+    ///
+    /// let first = Mask::from_rows(&[3, 8, 5, 9], |price| *price > 4);
+    /// let (both, steps) = first.intersect_by_rank_counted(&Mask::from_indices(3, [0, 2]));
+    /// assert_eq!((both.to_string().as_str(), steps.deposits()), ("0101", 1));
+    /// ```
     ///
     /// # Panics
     /// Where `mask` isn't as long as this mask's count of true values.
@@ -189,6 +211,12 @@ impl Mask {
     }
 
     /// The values as a buffer. That of a mixed mask is taken out, and others are made.
+    ///
+    /// ```
+    /// use row_mask::{BitBuffer, Mask};
+    ///
+    /// assert_eq!(Mask::new_true(3).into_bit_buffer(), BitBuffer::new_set(3));
+    /// ```
     #[inline]
     #[must_use]
     pub fn into_bit_buffer(self) -> BitBuffer {

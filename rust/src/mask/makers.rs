@@ -153,6 +153,12 @@ impl Mask {
     }
 
     /// The values. None give `AllFalse(0)`. It is `collect` by a name of its own.
+    ///
+    /// ```
+    /// use row_mask::Mask;
+    ///
+    /// assert_eq!(Mask::from_bools([true, false, true]), Mask::from_indices(3, [0, 2]));
+    /// ```
     #[inline]
     #[must_use]
     pub fn from_bools(bools: impl IntoIterator<Item = bool>) -> Mask {
@@ -194,6 +200,12 @@ impl Mask {
     }
 
     /// The values of masks, one mask after another. No values give `AllTrue(0)`. It is `collect` by a name of its own.
+    ///
+    /// ```
+    /// use row_mask::Mask;
+    ///
+    /// assert_eq!(Mask::from_masks([Mask::new_true(2), Mask::new_false(1)]).to_string(), "110");
+    /// ```
     ///
     /// # Panics
     /// Where the sum of their lengths doesn't fit.

@@ -121,7 +121,7 @@ impl Mask {
 
     /// The same mask, with the lists that this one has cached.
     ///
-    /// [`clone`](Self::clone) is the same where missing memory ends the process, and has an example.
+    /// [`clone`](Self::clone) is the same where missing memory ends the process.
     ///
     /// # Proved ([terms](crate::definitions))
     ///
