@@ -70,6 +70,12 @@ class Function(namedtuple("Function", "file name path lines clauses contract who
         return self.file == file and self.lines[0] <= line <= self.lines[1]
 
 
+@cache
+def words_of(text):
+    """The words of code, but for those of its comments and strings."""
+    return {*re.findall(r"\w+", blanked(text))}
+
+
 def blanked(text):
     """The text with comments, strings, characters and modules of tests as spaces, so that braces can be counted.
 
