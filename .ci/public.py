@@ -5,7 +5,7 @@ from functools import cache
 from source import CRATES, ROOT, exported_types, functions_of, library_crates, module_of
 
 # Pages that scripts read.
-API_MAP, CONTRACTS, DIFFERENCES = "docs/WORDS.md", "docs/DEFINITIONS.md", "docs/DIFFERENCES.md"
+API_MAP, CONTRACTS, DIFFERENCES = "docs/API_MAP.md", "docs/READING_CONTRACTS.md", "docs/DIFFERENCES.md"
 
 
 def cells_of(row):

@@ -55,7 +55,7 @@ pub use take::{take, take_append, take_into};
 pub use walks::{Indices, Runs, Values};
 
 /// How to read the contracts in this documentation, and what their words mean.
-#[doc = include_str!("../../docs/DEFINITIONS.md")]
+#[doc = include_str!("../../docs/READING_CONTRACTS.md")]
 #[allow(clippy::doc_markdown, reason = "the page is that of the repository")]
 pub mod definitions {}
 
