@@ -16,17 +16,17 @@ use nibbles::deposit_two_by_nibbles;
 /// Scatters the low bits of a word to the set bits of a mask word, as the instruction PDEP does.
 // rust: lawful
 pub trait DepositBits {
-    /// The word whose bit `i` is set exactly where bit `i` of `mask` is and so is the bit of
-    /// `source` whose number is the count of mask bits below `i`. So the set places of `mask`
-    /// take the bits of `source` in their order, and bits from `mask_count` on are ignored.
+    /// The word in which the set places of `mask` have the bits of `source` in their order, the lowest first, and
+    /// all others are 0. So bit `i` is set exactly where bit `i` of `mask` is and so is the bit of `source`
+    /// whose number is the count of mask bits below `i`. Bits of `source` from `mask_count` on are ignored.
     ///
     /// `mask_count` is how many bits of `mask` are set, which callers know anyway.
     fn deposit_bits(source: u64, mask: u64, mask_count: usize) -> u64
         requires { mask_count ≡ count (word_bits mask) }
         ensures { Deposits source mask result };
 
-    /// The deposits of two words, each as [`DepositBits::deposit_bits`] has it, which answers them one
-    /// by one where an implementation says nothing else. The kernels deposit two words at a time.
+    /// The deposits of two words, each as [`DepositBits::deposit_bits`] has it. The kernels deposit two words at a
+    /// time. An implementation that doesn't override this call takes one after the other.
     fn deposit_two(sources: [u64; 2], masks: [u64; 2], mask_counts: [usize; 2]) -> [u64; 2]
         requires counted_first { slice_index mask_counts 0
             ≡ count (word_bits (slice_index masks 0)) }

@@ -1,5 +1,5 @@
-//! Which kernel narrows two masks of mixed values. The crate's `README.md` has the tests in a table, with the
-//! reason of each.
+//! Which kernel narrows two masks of mixed values. `docs/DISPATCH.md` has the tests in a table, with the reason
+//! of each.
 
 ghost use Rattle.std.specs.Prelude.{◌≡◌, ◌*◌};
 ghost use Rattle.mask_bits.specs.Buffer.{values};

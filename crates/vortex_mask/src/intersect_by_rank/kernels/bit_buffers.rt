@@ -70,7 +70,7 @@ pub(crate) fn intersect_bit_buffers_with<D: DepositBits, C: CountSteps>(
 }
 
 /// Writes the values of `chunks` narrowed by those of `ranks` to `out`, which has just the bytes of
-/// the started words, and answers the steps.
+/// the started words, and returns the steps.
 // rust: level
 // rust: called at its level
 pub fn narrow_by_bits<D: DepositBits>(
@@ -111,7 +111,7 @@ pub fn narrow_words<D: DepositBits>(
     narrow_words_with::<D, Uncounted>(chunks, ranks, offset, len, out);
 }
 
-// Writes what `narrow_words` does, and answers the steps where `C` counts them.
+// Writes what `narrow_words` does, and returns the steps where `C` counts them.
 // rust: inline
 fn narrow_words_with<D: DepositBits, C: CountSteps>(
     chunks: &BitChunks<'_>,
@@ -138,7 +138,7 @@ fn narrow_words_with<D: DepositBits, C: CountSteps>(
     Narrowed::new(offset).narrow_rest::<D, _>(chunks, &anywhere, out)
 }
 
-// Writes what `narrow_by_bits` does, and answers the steps where `C` counts them.
+// Writes what `narrow_by_bits` does, and returns the steps where `C` counts them.
 // rust: level
 #[inline(never)]
 fn narrow_by_bits_with<D: DepositBits, C: CountSteps>(

@@ -15,9 +15,9 @@ use nibbles::deposit_two_by_nibbles;
 ///
 /// Each answer is as its contract says: a compiler can't see that.
 pub unsafe trait DepositBits {
-    /// The word whose bit `i` is set exactly where bit `i` of `mask` is and so is the bit of
-    /// `source` whose number is the count of mask bits below `i`. So the set places of `mask`
-    /// take the bits of `source` in their order, and bits from `mask_count` on are ignored.
+    /// The word in which the set places of `mask` have the bits of `source` in their order, the lowest first, and
+    /// all others are 0. So bit `i` is set exactly where bit `i` of `mask` is and so is the bit of `source`
+    /// whose number is the count of mask bits below `i`. Bits of `source` from `mask_count` on are ignored.
     ///
     /// `mask_count` is how many bits of `mask` are set, which callers know anyway.
     ///
@@ -42,8 +42,8 @@ pub unsafe trait DepositBits {
     /// The same, where the caller meets the conditions: else the answer is any, or a panic.
     fn deposit_bits_proved(source: u64, mask: u64, mask_count: usize) -> u64;
 
-    /// The deposits of two words, each as [`DepositBits::deposit_bits`] has it, which answers them one
-    /// by one where an implementation says nothing else. The kernels deposit two words at a time.
+    /// The deposits of two words, each as [`DepositBits::deposit_bits`] has it. The kernels deposit two words at a
+    /// time. An implementation that doesn't override this call takes one after the other.
     ///
     /// # Panics unless ([terms](crate::definitions))
     ///

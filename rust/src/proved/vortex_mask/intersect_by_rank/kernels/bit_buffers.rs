@@ -59,7 +59,7 @@ pub(crate) fn intersect_bit_buffers_with<D: DepositBits, C: CountSteps>(
 }
 
 /// Writes the values of `chunks` narrowed by those of `ranks` to `out`, which has just the bytes of
-/// the started words, and answers the steps.
+/// the started words, and returns the steps.
 #[inline]
 pub fn narrow_by_bits<D: DepositBits>(
     chunks: &BitChunks<'_>,
@@ -107,7 +107,7 @@ pub fn narrow_words<D: DepositBits>(
     narrow_words_with::<D, Uncounted>(chunks, ranks, offset, len, out);
 }
 
-// Writes what `narrow_words` does, and answers the steps where `C` counts them.
+// Writes what `narrow_words` does, and returns the steps where `C` counts them.
 #[inline(always)]
 fn narrow_words_with<D: DepositBits, C: CountSteps>(
     chunks: &BitChunks<'_>,
@@ -127,7 +127,7 @@ fn narrow_words_with<D: DepositBits, C: CountSteps>(
     Narrowed::new(offset).narrow_rest::<D, _>(chunks, &anywhere, out)
 }
 
-// Writes what `narrow_by_bits` does, and answers the steps where `C` counts them.
+// Writes what `narrow_by_bits` does, and returns the steps where `C` counts them.
 #[inline(never)]
 fn narrow_by_bits_with<D: DepositBits, C: CountSteps>(
     chunks: &BitChunks<'_>,
