@@ -26,7 +26,7 @@ EDITS = [
     ("the text of an error", "src/proved/vortex_mask/mask/error.rs", "{at} is below the", "{at} is above the"),
     ("another call of lanes", f"{BITS}/extract/two_words.rs", ">> u8x16::splat(1)", ">> u8x16::every(1)"),
     ("another target feature", f"{BITS}/bools.rs", "avx2,bmi1", "avx2,bmi2"),
-    ("another target feature of ARM", f"{BITS}/choose_values.rs", "sve2-bitperm", "sve2-aes"),
+    ("another target feature of ARM", f"{BITS}/choose/bits.rs", "sve2-bitperm", "sve2-aes"),
     ("a clone by another name", BUFFER, "self.bytes.clone()", "self.bytes.try_clone()"),
     ("`unsafe` taken from a lawful trait", DEPOSIT, "pub unsafe trait", "pub trait"),
     ("`unsafe` taken from its implementation", DEPOSIT, "unsafe impl", "impl"),

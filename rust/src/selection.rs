@@ -5,8 +5,8 @@ use crate::bitmap::room::{
 };
 use crate::native::{OF_A_RUN, choose_several, copy_runs};
 use crate::proved::mask_bits::SetSlices;
-use crate::proved::mask_bits::room::Lent;
-use crate::proved::mask_bits::word_rows::push_rows_one_by_one;
+use crate::proved::mask_bits::choose::rows_of_word::push_rows_one_by_one;
+use crate::proved::mask_bits::output::Lent;
 use crate::proved::mask_c;
 use crate::row_index::InBlocks;
 use crate::{Bitmap, BitmapBuf, Error, Room, Row};

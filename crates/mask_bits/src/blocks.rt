@@ -5,9 +5,9 @@ ghost use Rattle.mask_bits.specs.Positions.{count, indices_from};
 ghost use Rattle.mask_bits.specs.Words.{bits_of_words};
 
 use crate::chunks::BitChunks;
-use crate::room::Room;
+use crate::indices_of_word::push_indices;
+use crate::output::Room;
 use crate::row_index::RowIndex;
-use crate::word_indices::push_indices;
 
 /// The words of block `i`.
 #[inline(always)]

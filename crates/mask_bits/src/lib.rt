@@ -20,7 +20,7 @@ pub mod byte_list;
 #[doc(hidden)]
 pub mod byte_places;
 #[doc(hidden)]
-pub mod choose_values;
+pub mod choose;
 mod chunks;
 #[doc(hidden)]
 pub mod combine;
@@ -36,34 +36,28 @@ pub mod extract;
 #[doc(hidden)]
 pub mod from_rows;
 #[doc(hidden)]
+pub mod indices_of_word;
+mod items_of_word;
+#[doc(hidden)]
 pub mod kleene;
 pub mod laws;
 mod nullable;
+#[doc(hidden)]
+pub mod output;
 // rust: replaced by native::processor
 #[doc(hidden)]
 pub mod processor;
-#[doc(hidden)]
-pub mod push_rows;
 mod ranks;
 mod read_word;
-#[doc(hidden)]
-pub mod room;
 #[doc(hidden)]
 pub mod row_index;
 mod run_words;
 mod scan;
 mod set_indices;
 mod set_slices;
-#[doc(hidden)]
-pub mod small_rows;
 // rust: replaced by kit::unchecked
 #[doc(hidden)]
 pub mod unchecked;
-#[doc(hidden)]
-pub mod word_indices;
-mod word_items;
-// rust: visible
-mod word_rows;
 pub mod words;
 #[doc(hidden)]
 pub mod write_bits;

@@ -2,7 +2,7 @@
 //!
 //! The Rust package has a module by hand in place of this one, which asks what the processor has.
 
-use crate::small_rows::ByTable;
+use crate::choose::small_rows::ByTable;
 
 /// Whether several rows of one byte are moved at once.
 #[inline(always)]

@@ -1,7 +1,7 @@
 //! Row numbers of 8 and of 4 bytes.
 
-use crate::room::Room;
-use crate::word_items::push_eight;
+use crate::items_of_word::push_eight;
+use crate::output::Room;
 use std::simd::prelude::*;
 
 /// A row number, as a list of indices has it.

@@ -11,8 +11,8 @@ ghost use Rattle.mask_bits.specs.Positions.{positions, count};
 use crate::blocks::{block, has_some, push_block};
 use crate::buffer::BitBuffer;
 use crate::chunks::BitChunks;
+use crate::indices_of_word::push_indices;
 use crate::scan::{first_word, next_word};
-use crate::word_indices::push_indices;
 use std::alloc::{AllocError, Global};
 use std::marker::Model;
 

@@ -5,10 +5,10 @@ ghost use Rattle.mask_bits.specs.Buffer.{IsWithinBytes};
 ghost use Rattle.mask_c.specs.Bitmap.{AreChosen, CanChoose};
 
 use mask_bits::BitChunks;
+use mask_bits::choose::rows::{choose_rows, choose_small_rows};
+use mask_bits::choose::small_rows::MoveRows;
+use mask_bits::output::Lent;
 use mask_bits::processor::{Moved, moves_bytes};
-use mask_bits::push_rows::{choose_rows, choose_small_rows};
-use mask_bits::room::Lent;
-use mask_bits::small_rows::MoveRows;
 
 // From so many true values of a word on, several rows of one byte are moved at once. Fewer take less time one by one.
 const FEW_BYTES: usize = 6;

@@ -9,7 +9,7 @@ ghost use Rattle.mask_c.specs.Bitmap.{AreClearBehind};
 
 use crate::last::put_remainder;
 use mask_bits::BitChunks;
-use mask_bits::choose_values::put_chosen;
+use mask_bits::choose::bits::put_chosen;
 
 /// Writes the values of `values` at the true values of the bitmap, in their order, and answers how many
 /// they are. So the validity of a column is filtered with its rows.

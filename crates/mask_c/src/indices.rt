@@ -8,9 +8,9 @@ ghost use Rattle.mask_bits.specs.Words.{bits_of_words, started_words};
 
 use mask_bits::BitChunks;
 use mask_bits::blocks::{SPARE, block, ones_in, push_block};
-use mask_bits::room::{Lent, Room};
+use mask_bits::indices_of_word::put_indices;
+use mask_bits::output::{Lent, Room};
 use mask_bits::row_index::RowIndex;
-use mask_bits::word_indices::put_indices;
 
 /// The index of true value number `n`, counted from 0, and `len` where there is none.
 #[unsafe(no_mangle)]

@@ -11,7 +11,7 @@ ghost use Rattle.mask_c.specs.Strings.{bytes_of, items_at, size_of, sizes, strin
 use crate::offsets::{Offset, string_at};
 use crate::short_strings::{before_last, put_part, put_wide, words_of_each};
 use mask_bits::BitChunks;
-use mask_bits::word_indices::put_indices;
+use mask_bits::indices_of_word::put_indices;
 
 /// Writes the bytes of the strings at the true values, one string behind another, to the front of `out`, and
 /// answers how many these are. String `i` has the bytes from `offsets[i]` to `offsets[i + 1]`, and an offset

@@ -3,9 +3,9 @@
 #[cfg(target_arch = "x86_64")]
 use super::processor::{Compressed, compresses, moves_fours};
 use super::processor::{Moved, moves_bytes};
-use crate::proved::mask_bits::push_rows::{choose_rows, choose_small_rows};
-use crate::proved::mask_bits::room::Lent;
-use crate::proved::mask_bits::small_rows::MoveRows;
+use crate::proved::mask_bits::choose::rows::{choose_rows, choose_small_rows};
+use crate::proved::mask_bits::choose::small_rows::MoveRows;
+use crate::proved::mask_bits::output::Lent;
 use crate::proved::mask_bits::{BitBuffer, BitChunks, SetSlices};
 use crate::proved::vortex_mask::mask::choose;
 use alloc::vec::Vec;

@@ -4,7 +4,7 @@
 
 use super::instructions;
 use crate::proved::mask_bits::BitChunks;
-use crate::proved::mask_bits::choose_values::LastChosen;
+use crate::proved::mask_bits::choose::bits::LastChosen;
 use core::hint::{black_box, select_unpredictable};
 
 /// The bits at set places, by the instruction.

@@ -7,8 +7,8 @@ use super::has_quick_bits;
 use super::{has_v3, has_v4, instructions};
 #[cfg(target_arch = "x86_64")]
 use crate::proved::mask_bits::byte_places::places_of;
-use crate::proved::mask_bits::room::Room;
-use crate::proved::mask_bits::small_rows::{ByTable, MoveRows};
+use crate::proved::mask_bits::choose::small_rows::{ByTable, MoveRows};
+use crate::proved::mask_bits::output::Room;
 
 /// Whether a program is compiled for an instruction that moves the bytes of a register to places that another one has.
 const MOVES_BY_TABLE: bool = cfg!(all(

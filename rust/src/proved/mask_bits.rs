@@ -17,7 +17,7 @@ pub(crate) use crate::kit::byte_list;
 #[doc(hidden)]
 pub mod byte_places;
 #[doc(hidden)]
-pub mod choose_values;
+pub mod choose;
 mod chunks;
 #[doc(hidden)]
 pub mod combine;
@@ -33,16 +33,17 @@ pub mod extract;
 #[doc(hidden)]
 pub mod from_rows;
 #[doc(hidden)]
+pub mod indices_of_word;
+mod items_of_word;
+#[doc(hidden)]
 pub mod kleene;
 mod nullable;
 #[doc(hidden)]
-pub(crate) use crate::native::processor;
+pub mod output;
 #[doc(hidden)]
-pub mod push_rows;
+pub(crate) use crate::native::processor;
 mod ranks;
 mod read_word;
-#[doc(hidden)]
-pub mod room;
 #[doc(hidden)]
 pub mod row_index;
 mod run_words;
@@ -50,13 +51,7 @@ mod scan;
 mod set_indices;
 mod set_slices;
 #[doc(hidden)]
-pub mod small_rows;
-#[doc(hidden)]
 pub(crate) use crate::kit::unchecked;
-#[doc(hidden)]
-pub mod word_indices;
-mod word_items;
-pub(crate) mod word_rows;
 pub mod words;
 #[doc(hidden)]
 pub mod write_bits;

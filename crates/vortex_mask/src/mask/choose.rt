@@ -8,7 +8,7 @@ ghost use Rattle.vortex_mask.specs.Mask.{truth, variant, all_false};
 
 use crate::mask::{Mask, MaskError};
 use mask_bits::BitBuffer;
-use mask_bits::push_rows::choose_rows;
+use mask_bits::choose::rows::choose_rows;
 use std::alloc::Global;
 use std::mem::size_of_val;
 

@@ -3,9 +3,9 @@
 
 use crate::kit::prelude::*;
 use crate::proved::mask_bits::chunks::BitChunks;
-use crate::proved::mask_bits::room::Room;
+use crate::proved::mask_bits::indices_of_word::push_indices;
+use crate::proved::mask_bits::output::Room;
 use crate::proved::mask_bits::row_index::RowIndex;
-use crate::proved::mask_bits::word_indices::push_indices;
 
 /// The words of block `i`.
 #[inline(always)]

@@ -3,8 +3,8 @@
 
 use crate::kit::lanes::*;
 use crate::kit::prelude::*;
-use crate::proved::mask_bits::room::Room;
-use crate::proved::mask_bits::word_items::push_eight;
+use crate::proved::mask_bits::items_of_word::push_eight;
+use crate::proved::mask_bits::output::Room;
 
 /// A row number, as a list of indices has it.
 pub trait RowIndex: Copy {

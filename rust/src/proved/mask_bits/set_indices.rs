@@ -6,8 +6,8 @@ use crate::kit::prelude::*;
 use crate::proved::mask_bits::blocks::{block, has_some, push_block};
 use crate::proved::mask_bits::buffer::BitBuffer;
 use crate::proved::mask_bits::chunks::BitChunks;
+use crate::proved::mask_bits::indices_of_word::push_indices;
 use crate::proved::mask_bits::scan::{first_word, next_word};
-use crate::proved::mask_bits::word_indices::push_indices;
 
 impl BitBuffer {
     /// The indices of the true values, ascending.

@@ -3,10 +3,10 @@
 
 use crate::kit::prelude::*;
 use crate::proved::mask_bits::BitChunks;
+use crate::proved::mask_bits::choose::rows::{choose_rows, choose_small_rows};
+use crate::proved::mask_bits::choose::small_rows::MoveRows;
+use crate::proved::mask_bits::output::Lent;
 use crate::proved::mask_bits::processor::{Moved, moves_bytes};
-use crate::proved::mask_bits::push_rows::{choose_rows, choose_small_rows};
-use crate::proved::mask_bits::room::Lent;
-use crate::proved::mask_bits::small_rows::MoveRows;
 
 // From so many true values of a word on, several rows of one byte are moved at once. Fewer take less time one by one.
 const FEW_BYTES: usize = 6;

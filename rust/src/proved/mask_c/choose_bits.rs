@@ -3,7 +3,7 @@
 
 use crate::kit::prelude::*;
 use crate::proved::mask_bits::BitChunks;
-use crate::proved::mask_bits::choose_values::put_chosen;
+use crate::proved::mask_bits::choose::bits::put_chosen;
 use crate::proved::mask_c::last::put_remainder;
 
 /// Writes the values of `values` at the true values of the bitmap, in their order, and answers how many

@@ -4,9 +4,9 @@
 use crate::kit::prelude::*;
 use crate::proved::mask_bits::BitChunks;
 use crate::proved::mask_bits::blocks::{SPARE, block, ones_in, push_block};
-use crate::proved::mask_bits::room::{Lent, Room};
+use crate::proved::mask_bits::indices_of_word::put_indices;
+use crate::proved::mask_bits::output::{Lent, Room};
 use crate::proved::mask_bits::row_index::RowIndex;
-use crate::proved::mask_bits::word_indices::put_indices;
 
 /// The index of true value number `n`, counted from 0, and `len` where there is none.
 #[inline]

@@ -3,7 +3,7 @@
 
 use crate::kit::prelude::*;
 use crate::proved::mask_bits::BitChunks;
-use crate::proved::mask_bits::word_indices::put_indices;
+use crate::proved::mask_bits::indices_of_word::put_indices;
 use crate::proved::mask_c::offsets::{Offset, string_at};
 use crate::proved::mask_c::short_strings::{before_last, put_part, put_wide, words_of_each};
 

@@ -3,7 +3,7 @@
 
 use crate::kit::prelude::*;
 use crate::proved::mask_bits::BitBuffer;
-use crate::proved::mask_bits::push_rows::choose_rows;
+use crate::proved::mask_bits::choose::rows::choose_rows;
 use crate::proved::vortex_mask::mask::{Mask, MaskError};
 
 use ::core::mem::size_of_val;
