@@ -1,6 +1,7 @@
 //! Deposits: the bits of one word at the set places of another.
 
 mod bytewise;
+mod lanes;
 mod nibbles;
 
 ghost use Rattle.std.specs.Prelude.{ℕ, ◌≡◌, ◌<◌, ◌≤◌, ◌+◌, ◌*◌, ◌/◌, ◌%◌, ◌^◌, ◌↔◌, ◌⊎◌, IsTrue, slice_index};
@@ -10,7 +11,7 @@ ghost use Rattle.vortex_mask.specs.Deposit.{Deposits};
 ghost use Rattle.vortex_mask.specs.Path.{is_deposited_by_loop};
 
 pub use bytewise::deposit_bytewise;
-pub(super) use bytewise::{counts_below, words_of};
+pub(super) use lanes::{counts_below, words_of};
 use nibbles::deposit_two_by_nibbles;
 
 /// Scatters the low bits of a word to the set bits of a mask word, as the instruction PDEP does.

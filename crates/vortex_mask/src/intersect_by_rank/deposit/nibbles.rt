@@ -18,7 +18,7 @@ ghost use Rattle.mask_bits.specs.Lanes.{AreLanes};
 ghost use Rattle.vortex_mask.specs.Bytes.{EachLane, AreNibbles, landed_in, stays_in, nibble_moved_up};
 ghost use Rattle.vortex_mask.specs.Deposit.{Deposits};
 
-use super::bytewise::{bytes_of, counts_below, neighbors, words_of};
+use super::lanes::{bytes_of, counts_below, neighbors, words_of};
 use std::simd::prelude::*;
 
 /// The deposits of two words at any masks, by the nibbles of their sixteen bytes at once.

@@ -3,10 +3,11 @@
 
 use crate::kit::prelude::*;
 mod bytewise;
+mod lanes;
 mod nibbles;
 
 pub use bytewise::deposit_bytewise;
-pub(super) use bytewise::{counts_below, words_of};
+pub(super) use lanes::{counts_below, words_of};
 use nibbles::deposit_two_by_nibbles;
 
 /// Scatters the low bits of a word to the set bits of a mask word, as the instruction PDEP does.

@@ -2,24 +2,13 @@
 //! Deposits that work on the sixteen bytes of two words at once, with no branch: the network of the
 //! Rust crate, with a lane of a vector for each byte.
 //!
-//! ```text
-//!  lane  15 14 13 12 11 10  9  8 | 7 6 5 4 3 2 1 0
-//!           the second word      |  the first word
-//!  base   8  8  8  8  8  8  8  8 | 0 0 0 0 0 0 0 0
-//! ```
-//!
-//! The set places of a mask byte take that many source bits, from the one on whose number is the
-//! count of mask bits in all lower bytes of its word. These bits lie in two neighboring bytes of the
-//! source: with 21 mask bits below they begin at bit 5 of byte 2. So each lane fetches the lane of
-//! its base and 2, and the next one, and takes eight bits of both from bit 5 on:
+//! Each lane fetches two neighboring bytes of the source, as `lanes` draws. It takes eight bits of both, which begin at bit
+//! 5 where 21 mask bits are below:
 //!
 //! ```text
 //!         byte 3            byte 2
 //!  . . . h g f e d | c b a . . . . .      the lane holds h g f e d c b a
 //! ```
-//!
-//! Behind the last byte of a word another one's is fetched. But a mask byte uses no more bits than
-//! it has, so none past the 64 of the source.
 //!
 //! These bits come in as the byte's lowest ones, and each has to move up by the number of clear places below its set
 //! place. That number is below 8, so three moves do: by 4, by 2 and by 1, each where that bit of the number is set.
@@ -36,6 +25,7 @@
 //! stage 2, by 4  . . . . 1 1 1 1   3        from 7, with 4 below
 //! ```
 
+use super::lanes::{bytes_of, counts_below, neighbors, words_of};
 use crate::kit::lanes::*;
 use crate::kit::prelude::*;
 
@@ -63,33 +53,6 @@ pub(super) fn deposit_two_bytewise(sources: [u64; 2], masks: [u64; 2]) -> [u64; 
     let lanes = move_up(bits & packing.packed, packing.landed_2, 2);
     let lanes = move_up(lanes, packing.landed_1, 1);
     words_of(move_up(lanes, packing.landed_0, 0)).to_array()
-}
-
-// The bytes of two words as lanes.
-#[inline(always)]
-pub(super) fn bytes_of(words: u64x2) -> u8x16 {
-    words.to_le_bytes()
-}
-
-// The words whose bytes the lanes are.
-#[inline(always)]
-pub(crate) fn words_of(lanes: u8x16) -> u64x2 {
-    u64x2::from_le_bytes(lanes)
-}
-
-// In each lane, the number of set bits in all lower bytes of its word.
-#[inline(always)]
-pub(crate) fn counts_below(masks: u64x2) -> u8x16 {
-    bytes_of(sums_below(words_of(bytes_of(masks).count_ones())))
-}
-
-// Of each word, the sums of all lower bytes, in each byte: of one lower byte, of two, of four and then of all.
-#[inline(always)]
-fn sums_below(words: u64x2) -> u64x2 {
-    let sums = words << u64x2::splat(8);
-    let sums = sums + (sums << u64x2::splat(8));
-    let sums = sums + (sums << u64x2::splat(16));
-    sums + (sums << u64x2::splat(32))
 }
 
 // In each lane, the places at which an odd number of zeros have been passed, where the zeros
@@ -142,23 +105,6 @@ fn compress(mask: u8x16) -> Packing {
         landed_1: by_two.landed,
         landed_2: by_four.landed,
     }
-}
-
-#[derive(Clone, Copy)]
-pub(super) struct TwoBytes {
-    pub(super) low: u8x16,
-    pub(super) high: u8x16,
-}
-
-// In each lane, the byte of its word in which bit `below` is, and the next one of the word.
-#[inline(always)]
-pub(super) fn neighbors(words: u64x2, below: u8x16) -> TwoBytes {
-    let bytes = bytes_of(words);
-    // the second word's bytes are the lanes from 8 on
-    let base = u8x16::from_array([0, 0, 0, 0, 0, 0, 0, 0, 8, 8, 8, 8, 8, 8, 8, 8]);
-    let at = base + (below >> u8x16::splat(3));
-    let next = (at + u8x16::splat(1)) & u8x16::splat(15);
-    TwoBytes { low: bytes.swizzle_dyn(at), high: bytes.swizzle_dyn(next) }
 }
 
 // In each lane, eight bits of the number whose two bytes are `low` and `high`, from that lane of

@@ -14,7 +14,7 @@
 //! by one. The upper nibble's bits lie behind those of the lower one, of which there are as many as the
 //! lower nibble's mask has set. A product with a power of two moves them to the upper nibble.
 
-use super::bytewise::{bytes_of, counts_below, neighbors, words_of};
+use super::lanes::{bytes_of, counts_below, neighbors, words_of};
 use crate::kit::lanes::*;
 use crate::kit::prelude::*;
 

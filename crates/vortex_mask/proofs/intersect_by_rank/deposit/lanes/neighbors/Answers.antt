@@ -1,5 +1,5 @@
 use Rattle.vortex_mask.proofs.Common.{◌≡◌, ◌+◌, ◌*◌, ◌/◌, ◌%◌, ◌^◌, ◌<◌, ℕ, ap₂, ◌∙◌, bit_and, arith, get_or, List, [], ◌∷◌, length, replicate, refl, zip2, and_mask, AreLanes, EachLane, byte_at, AreLanes-itself, AreLanes-swz_l, SwzOk-lanes, AreLanes-zip2, AreLanes-splat, AreLanes-same, same_below}
-use Rattle.vortex_mask.proofs.intersect_by_rank.deposit.bytewise.neighbors.Goals as goal
+use Rattle.vortex_mask.proofs.intersect_by_rank.deposit.lanes.neighbors.Goals as goal
 
 abbrev base : List ℕ
 base = 0 ∷ 0 ∷ 0 ∷ 0 ∷ 0 ∷ 0 ∷ 0 ∷ 0 ∷ 8 ∷ 8 ∷ 8 ∷ 8 ∷ 8 ∷ 8 ∷ 8 ∷ 8 ∷ []

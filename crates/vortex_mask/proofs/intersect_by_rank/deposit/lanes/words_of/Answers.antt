@@ -1,6 +1,6 @@
 use Rattle.vortex_mask.proofs.Common.{w8, ap, ◌∙◌, arith, get_or, below_from_Fits}
 use Rattle.vortex_mask.proofs.Deposits.LaneLemmas.{byte_at-word, lane_is}
-use Rattle.vortex_mask.proofs.intersect_by_rank.deposit.bytewise.words_of.Goals as goal
+use Rattle.vortex_mask.proofs.intersect_by_rank.deposit.lanes.words_of.Goals as goal
 
 pub returns-clause-bytes : goal.returns-clause-bytes
 returns-clause-bytes c = λ j h.

@@ -2,7 +2,7 @@ use Rattle.vortex_mask.proofs.Common.{◌≡◌, ◌+◌, ◌*◌, ◌/◌, ◌%
 use Rattle.vortex_mask.proofs.Deposits.ByteCountLemmas.{summed_is}
 use Rattle.vortex_mask.proofs.Deposits.ByteLemmas.{byte_at-lt}
 use Rattle.vortex_mask.proofs.Deposits.LaneLemmas.{AreLanes-fit}
-use Rattle.vortex_mask.proofs.intersect_by_rank.deposit.bytewise.counts_below.Goals as goal
+use Rattle.vortex_mask.proofs.intersect_by_rank.deposit.lanes.counts_below.Goals as goal
 
 pub overflow_cast-bytes_of : goal.overflow_cast-bytes_of
 overflow_cast-bytes_of c = AreLanes-fit (AreLanes-map count_ones c.bytes_of.ensures) (λ j h. omega (arith, ones-le 8 (byte_of_two c.args.masks j) (byte_at-lt _ _)))
