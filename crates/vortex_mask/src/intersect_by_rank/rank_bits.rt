@@ -1,9 +1,10 @@
 //! The bits of a rank mask, read many at once from any bit on.
 
-ghost use Rattle.std.specs.Prelude.{◌≡◌, ◌+◌, ◌/◌, ◌<◌, ◌≤◌, ◌^◌, length};
-ghost use Rattle.mask_bits.specs.Buffer.{IsWithinBytes};
+ghost use Rattle.std.specs.Prelude.{◌≡◌, ◌+◌, ◌-◌, ◌/◌, ◌<◌, ◌≤◌, ◌^◌, ⊤, length};
+ghost use Rattle.mask_bits.specs.Buffer.{backing_bit, IsWithinBytes};
 ghost use Rattle.mask_bits.specs.Words.{word_bits, window};
 
+use crate::intersect_by_rank::kernels::RankWords;
 use mask_bits::unchecked::part;
 use mask_bits::{BitBuffer, words};
 use std::marker::Model;
@@ -93,6 +94,31 @@ impl<'a> RankBits<'a> {
         } else {
             words::word_at(&self.tail, position - 8 * self.tail_from)
         }
+    }
+}
+
+// Also the bits at the end of the bytes, by the copy of these.
+impl RankWords for RankBits<'_> {
+    ghost bit = { λ b k. backing_bit b.bytes (b.offset + k) };
+
+    ghost end = { λ b. 2 ^ 64 - 1 - b.offset };
+
+    ghost number = { λ b at. at - b.offset };
+
+    ghost IsPassed = { λ b _ at. (b.offset ≤ at) × (at < 2 ^ 64) };
+
+    ghost Reaches = { λ _ _. ⊤ };
+
+    #[inline(always)]
+    fn reaches(&self, _at: usize) -> bool {
+        true
+    }
+
+    #[tactic(auto, using(crate::proofs::Kernels::WordKernelLemmas::bit_of_window))]
+    #[inline(always)]
+    fn two_words(&self, _next: &mut usize, at: usize, ones: [usize; 2]) -> [u64; 2] {
+        let first = at - self.offset();
+        [self.read(first), self.read(first + ones[0])]
     }
 }
 

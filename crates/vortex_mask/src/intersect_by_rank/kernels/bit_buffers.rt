@@ -226,28 +226,3 @@ impl RankWords for BitsAnywhere<'_> {
         [word_at(self.bytes, at), word_at(self.bytes, at + ones[0])]
     }
 }
-
-// Also those at the end, by the copy of these.
-impl RankWords for RankBits<'_> {
-    ghost bit = { λ b k. backing_bit b.bytes (b.offset + k) };
-
-    ghost end = { λ b. 2 ^ 64 - 1 - b.offset };
-
-    ghost number = { λ b at. at - b.offset };
-
-    ghost IsPassed = { λ b _ at. (b.offset ≤ at) × (at < 2 ^ 64) };
-
-    ghost Reaches = { λ _ _. ⊤ };
-
-    #[inline(always)]
-    fn reaches(&self, _at: usize) -> bool {
-        true
-    }
-
-    #[tactic(auto, using(crate::proofs::Kernels::WordKernelLemmas::bit_of_window))]
-    #[inline(always)]
-    fn two_words(&self, _next: &mut usize, at: usize, ones: [usize; 2]) -> [u64; 2] {
-        let first = at - self.offset();
-        [self.read(first), self.read(first + ones[0])]
-    }
-}

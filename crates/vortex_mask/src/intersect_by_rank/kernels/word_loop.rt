@@ -13,7 +13,7 @@ use mask_bits::BitChunks;
 use mask_bits::words::set_word;
 
 // Where the bits of a rank mask are read from.
-pub(super) trait RankWords {
+pub(crate) trait RankWords {
     ghost use Rattle.std.specs.Prelude.{ℕ, Bool};
 
     // the rank bit of this number

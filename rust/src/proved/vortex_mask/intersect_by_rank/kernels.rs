@@ -18,3 +18,4 @@ pub use mask_driven::intersect_mask_driven;
 pub(super) use mask_driven::intersect_mask_driven_with;
 pub(super) use rank_indices::intersect_bit_buffer_by_rank_indices_with;
 pub use rank_indices::{intersect_bit_buffer_by_rank_indices, narrow_at_ranks};
+pub(super) use word_loop::RankWords;

@@ -4,6 +4,7 @@
 use crate::kit::prelude::*;
 use crate::proved::mask_bits::unchecked::part;
 use crate::proved::mask_bits::{BitBuffer, words};
+use crate::proved::vortex_mask::intersect_by_rank::kernels::RankWords;
 
 /// The bits of a rank mask, read 64 at a time from any bit on.
 pub struct RankBits<'a> {
@@ -105,6 +106,20 @@ impl<'a> RankBits<'a> {
         } else {
             words::word_at(&self.tail, position - 8 * self.tail_from)
         }
+    }
+}
+
+// Also the bits at the end of the bytes, by the copy of these.
+impl RankWords for RankBits<'_> {
+    #[inline(always)]
+    fn reaches(&self, _at: usize) -> bool {
+        true
+    }
+
+    #[inline(always)]
+    fn two_words(&self, _next: &mut usize, at: usize, ones: [usize; 2]) -> [u64; 2] {
+        let first = at - self.offset();
+        [self.read_proved(first), self.read_proved(first + ones[0])]
     }
 }
 

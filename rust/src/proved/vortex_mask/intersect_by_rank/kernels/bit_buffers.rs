@@ -200,17 +200,3 @@ impl RankWords for BitsAnywhere<'_> {
         [word_at(self.bytes, at), word_at(self.bytes, at + ones[0])]
     }
 }
-
-// Also those at the end, by the copy of these.
-impl RankWords for RankBits<'_> {
-    #[inline(always)]
-    fn reaches(&self, _at: usize) -> bool {
-        true
-    }
-
-    #[inline(always)]
-    fn two_words(&self, _next: &mut usize, at: usize, ones: [usize; 2]) -> [u64; 2] {
-        let first = at - self.offset();
-        [self.read_proved(first), self.read_proved(first + ones[0])]
-    }
-}

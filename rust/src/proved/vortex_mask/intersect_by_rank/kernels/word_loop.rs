@@ -8,7 +8,7 @@ use crate::proved::vortex_mask::intersect_by_rank::count_steps::CountSteps;
 use crate::proved::vortex_mask::intersect_by_rank::deposit::DepositBits;
 
 // Where the bits of a rank mask are read from.
-pub(super) trait RankWords {
+pub(crate) trait RankWords {
     // Whether the bits of two words can be read from `at` on.
     fn reaches(&self, at: usize) -> bool;
 
