@@ -137,6 +137,7 @@ fn choose<T: Copy>(bytes: &[u8], offset: usize, len: usize, rows: &[T], out: &mu
 
 // The same of small rows, of which several are moved at once where a word has `FEW` true values or more. It isn't
 // inlined: in one function with the loop above, that one takes longer.
+// rust: level to v4
 #[inline(never)]
 fn choose_small<const FEW: usize, M: MoveRows<T>, T: Copy>(
     bytes: &[u8],

@@ -162,9 +162,45 @@ unsafe fn move_as<const FEW: usize, B: Copy, M: MoveRows<B>, T: Copy>(
     move_several::<FEW, B, M>(rows, chunks, out);
 }
 
-// (Inlined, it would slow down the loop beside it.)
+// The number of rows that are written is in a local value of each copy. So it stays in a register: to store it after each
+// word takes up to 1.5 times as long. (Inlined, it would slow down the loop beside it.)
 #[inline(never)]
 fn move_several<const FEW: usize, T: Copy, M: MoveRows<T>>(
+    rows: &[T],
+    chunks: &BitChunks<'_>,
+    out: &mut [T],
+) {
+    super::by_level_to_v4!(
+        move_by_v4::<FEW, T, M>(rows, chunks, out),
+        move_by_v3::<FEW, T, M>(rows, chunks, out),
+        move_by_any::<FEW, T, M>(rows, chunks, out)
+    );
+}
+
+#[cfg(target_arch = "x86_64")]
+#[target_feature(enable = "avx2,bmi1,bmi2,f16c,fma,lzcnt,movbe,popcnt")]
+fn move_by_v3<const FEW: usize, T: Copy, M: MoveRows<T>>(
+    rows: &[T],
+    chunks: &BitChunks<'_>,
+    out: &mut [T],
+) {
+    move_by_any::<FEW, T, M>(rows, chunks, out);
+}
+
+#[cfg(target_arch = "x86_64")]
+#[target_feature(enable = "avx2,bmi1,bmi2,f16c,fma,lzcnt,movbe,popcnt")]
+#[target_feature(enable = "avx512f,avx512bw,avx512cd,avx512dq,avx512vl")]
+fn move_by_v4<const FEW: usize, T: Copy, M: MoveRows<T>>(
+    rows: &[T],
+    chunks: &BitChunks<'_>,
+    out: &mut [T],
+) {
+    move_by_any::<FEW, T, M>(rows, chunks, out);
+}
+
+#[allow(clippy::inline_always, reason = "a copy is compiled for what the function around it has")]
+#[inline(always)]
+fn move_by_any<const FEW: usize, T: Copy, M: MoveRows<T>>(
     rows: &[T],
     chunks: &BitChunks<'_>,
     out: &mut [T],

@@ -61,7 +61,6 @@ fn push_whole_words<const K: usize, const ROWS: usize, T: Copy, R: Room<T>>(
 }
 
 /// The same of small rows, as [`push_small_rows`] puts those of a word.
-// rust: level to v4
 #[inline(always)]
 pub fn choose_small_rows<const FEW: usize, M: MoveRows<T>, T: Copy, R: Room<T>>(
     out: &mut R,

@@ -125,6 +125,46 @@ fn choose_small<const FEW: usize, M: MoveRows<T>, T: Copy>(
     rows: &[T],
     out: &mut [T],
 ) -> usize {
+    crate::native::by_level_to_v4!(
+        choose_small_v4::<FEW, M, T>(bytes, offset, len, rows, out),
+        choose_small_v3::<FEW, M, T>(bytes, offset, len, rows, out),
+        choose_small_any::<FEW, M, T>(bytes, offset, len, rows, out)
+    )
+}
+
+#[cfg(target_arch = "x86_64")]
+#[target_feature(enable = "avx2,bmi1,bmi2,f16c,fma,lzcnt,movbe,popcnt")]
+fn choose_small_v3<const FEW: usize, M: MoveRows<T>, T: Copy>(
+    bytes: &[u8],
+    offset: usize,
+    len: usize,
+    rows: &[T],
+    out: &mut [T],
+) -> usize {
+    choose_small_any::<FEW, M, T>(bytes, offset, len, rows, out)
+}
+
+#[cfg(target_arch = "x86_64")]
+#[target_feature(enable = "avx2,bmi1,bmi2,f16c,fma,lzcnt,movbe,popcnt")]
+#[target_feature(enable = "avx512f,avx512bw,avx512cd,avx512dq,avx512vl")]
+fn choose_small_v4<const FEW: usize, M: MoveRows<T>, T: Copy>(
+    bytes: &[u8],
+    offset: usize,
+    len: usize,
+    rows: &[T],
+    out: &mut [T],
+) -> usize {
+    choose_small_any::<FEW, M, T>(bytes, offset, len, rows, out)
+}
+
+#[inline(always)]
+fn choose_small_any<const FEW: usize, M: MoveRows<T>, T: Copy>(
+    bytes: &[u8],
+    offset: usize,
+    len: usize,
+    rows: &[T],
+    out: &mut [T],
+) -> usize {
     let chunks = BitChunks::new_proved(bytes, offset, len);
     let mut room = Lent { out, at: 0 };
     choose_small_rows::<FEW, M, _, _>(&mut room, rows, &chunks);

@@ -69,40 +69,6 @@ pub fn choose_small_rows<const FEW: usize, M: MoveRows<T>, T: Copy, R: Room<T>>(
     rows: &[T],
     chunks: &BitChunks<'_>,
 ) {
-    crate::native::by_level_to_v4!(
-        choose_small_rows_v4::<FEW, M, T, R>(out, rows, chunks),
-        choose_small_rows_v3::<FEW, M, T, R>(out, rows, chunks),
-        choose_small_rows_any::<FEW, M, T, R>(out, rows, chunks)
-    )
-}
-
-#[cfg(target_arch = "x86_64")]
-#[target_feature(enable = "avx2,bmi1,bmi2,f16c,fma,lzcnt,movbe,popcnt")]
-fn choose_small_rows_v3<const FEW: usize, M: MoveRows<T>, T: Copy, R: Room<T>>(
-    out: &mut R,
-    rows: &[T],
-    chunks: &BitChunks<'_>,
-) {
-    choose_small_rows_any::<FEW, M, T, R>(out, rows, chunks)
-}
-
-#[cfg(target_arch = "x86_64")]
-#[target_feature(enable = "avx2,bmi1,bmi2,f16c,fma,lzcnt,movbe,popcnt")]
-#[target_feature(enable = "avx512f,avx512bw,avx512cd,avx512dq,avx512vl")]
-fn choose_small_rows_v4<const FEW: usize, M: MoveRows<T>, T: Copy, R: Room<T>>(
-    out: &mut R,
-    rows: &[T],
-    chunks: &BitChunks<'_>,
-) {
-    choose_small_rows_any::<FEW, M, T, R>(out, rows, chunks)
-}
-
-#[inline(always)]
-fn choose_small_rows_any<const FEW: usize, M: MoveRows<T>, T: Copy, R: Room<T>>(
-    out: &mut R,
-    rows: &[T],
-    chunks: &BitChunks<'_>,
-) {
     let words = chunks.len();
     for i in 0..words {
         push_small_rows::<FEW, M, _, _>(out, part(rows, 64 * i, 64), chunks.word_proved(i));
