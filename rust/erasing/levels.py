@@ -6,8 +6,9 @@ from erasing.tokens import TOKEN
 
 # What x86-64-v3 has above plain x86-64, as far as loops gain by it.
 FEATURES = "avx2,bmi1,bmi2,f16c,fma,lzcnt,movbe,popcnt"
-# What x86-64-v4 has above that.
-MORE_FEATURES = "avx512f,avx512bw,avx512cd,avx512dq,avx512vl"
+# What x86-64-v4 has above that, and that with VPOPCNTDQ.
+MORE_FEATURES = {"v4": "avx512f,avx512bw,avx512cd,avx512dq,avx512vl"}
+MORE_FEATURES["vpopcntdq"] = MORE_FEATURES["v4"] + ",avx512vpopcntdq"
 # What 64-bit ARM may have, as far as the instructions for bits at set places go.
 ARM_FEATURES = "sve2-bitperm"
 
@@ -30,17 +31,17 @@ def levelled(function, of, body, marked):
     #[inline(always)]
     fn f_any(a: u8) { g(a) }
     """
-    v4, v3, of_any = (f"{function.name}_{it}" for it in ("v4", "v3", "any"))
+    most, v3, of_any = (f"{function.name}_{it}" for it in (marked.most, "v3", "any"))
     place = "Self" if of else None
     calls = [function.call(it, place, []) for it in (v3, of_any)]
     first = function.call(f"{function.name}_by_instruction", place, []) + ", " if marked.has("copied by instruction") else ""
     body = inner(body)
     copy = f"""#[cfg(target_arch = "x86_64")]
 #[target_feature(enable = "{FEATURES}")]
-#[target_feature(enable = "{MORE_FEATURES}")]
-{function.signature(v4, "")} {{ {calls[1]} }}
+#[target_feature(enable = "{MORE_FEATURES[marked.most]}")]
+{function.signature(most, "")} {{ {calls[1]} }}
 
-""" if marked.to_v4 else ""
+""" if marked.most else ""
     more = f"""
 
 #[cfg(target_arch = "x86_64")]
@@ -51,10 +52,10 @@ def levelled(function, of, body, marked):
 {function.signature(of_any, "pub(crate) " if marked.has("called at its level") else "")} {body}
 """
     which = marked.level
-    if marked.to_v4:
-        which, first = f"{which}_to_v4", function.call(v4, place, []) + ", "
+    if marked.most:
+        which, first = f"{which}_to_{marked.most}", function.call(most, place, []) + ", "
     if marked.much:
-        which, first = f"{which}_if", f"{marked.much}, {first if marked.to_v4 else ''}"
+        which, first = f"{which}_if", f"{marked.much}, {first if marked.most else ''}"
     return f"{{ crate::native::by_{which}!({first}{calls[0]}, {calls[1]}) }}", more
 
 

@@ -6,6 +6,7 @@
 | `// rust: wide level` | the same of a loop over vectors alone: a program for x86-64-v2 takes its own |
 | `// rust: shifted level` | the same of what shifts words within such a loop: just such a program takes the copy |
 | `.. to v4` | another copy for x86-64-v4, which goes first |
+| `.. to vpopcntdq` | another for x86-64-v4 with the instruction that counts the set bits of words, which goes first |
 | `.. if CONDITION` | the copy is called only where there is so much to do that it pays to ask |
 | `.. alone` | what it calls isn't inlined always |
 | `// rust: called at its level` | a levelled function goes on to the copy of its own level |
@@ -33,7 +34,7 @@ from erasing.tokens import Fault
 
 CRATES = Path(__file__).resolve().parents[2] / "crates"
 LINE = re.compile(r"^[ \t]*// rust:(.*)\n", re.M)
-LEVEL = re.compile(r"(?P<kind>wide |shifted )?level(?P<v4> to v4)?(?: if (?P<much>.+?))?(?P<alone> alone)?")
+LEVEL = re.compile(r"(?P<kind>wide |shifted )?level(?: to (?P<most>v4|vpopcntdq))?(?: if (?P<much>.+?))?(?P<alone> alone)?")
 TOLD = re.compile(r"(?:(\w+) )?(needs|says) (\S.*)")
 NAMED = re.compile(r"named (\w+)")
 INSTEAD = re.compile(r"(replaced by|by instruction) ((?:\w+::)*\w+)")
@@ -47,8 +48,8 @@ class Marks:
     >>> marks = Marks(["wide level if len > 128", "visible"])
     >>> marks.level, marks.much, marks.alone, marks.has("visible"), marks.has("inline")
     ('wide_level', 'len > 128', False, True, False)
-    >>> marks.to_v4, Marks(["level to v4 if len > 128"]).to_v4
-    (False, True)
+    >>> marks.most, Marks(["level to v4 if len > 128"]).most
+    (None, 'v4')
     >>> Marks(["within needs `a < b`", "says No {} of {}"]).told
     {'within': ('needs', '`a < b`'), None: ('says', 'No {} of {}')}
     >>> Marks(["named try_clone"]).named
@@ -62,8 +63,8 @@ class Marks:
 
     def __init__(self, words=()):
         self.text = ", ".join(words)
-        self.level = self.much = self.named = None
-        self.alone = self.to_v4 = False
+        self.level = self.most = self.much = self.named = None
+        self.alone = False
         self.others = set()
         # what is said where a condition is broken, by the condition's name
         self.told = {}
@@ -75,7 +76,7 @@ class Marks:
                 self.told[told[1]] = (told[2], told[3])
             elif match and self.level is None:
                 self.level = f"{(match['kind'] or '').strip()}_level".lstrip("_")
-                self.to_v4, self.much, self.alone = bool(match["v4"]), match["much"], bool(match["alone"])
+                self.most, self.much, self.alone = match["most"], match["much"], bool(match["alone"])
             elif (match := NAMED.fullmatch(it)) and self.named is None:
                 self.named = match[1]
             elif (match := INSTEAD.fullmatch(it)) and match[1] not in self.instead:

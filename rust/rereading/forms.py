@@ -11,7 +11,7 @@ ALWAYS, INLINE, TRACKED, HIDDEN = (
 ON_X86 = words_of('#[cfg(target_arch = "x86_64")]')
 ON_BOTH = words_of('#[cfg(any(target_arch = "x86_64", target_arch = "aarch64"))]')
 BY_FEATURES = words_of(f"#[target_feature(enable = {FEATURES})]")
-BY_MORE_FEATURES = words_of(f"#[target_feature(enable = {MORE_FEATURES})]")
+BY_MORE_FEATURES = {most: words_of(f"#[target_feature(enable = {it})]") for most, it in MORE_FEATURES.items()}
 BY_FEATURES_OF_EACH = words_of(
     f'#[cfg_attr(target_arch = "x86_64", target_feature(enable = {FEATURES}))]'
     f'#[cfg_attr(target_arch = "aarch64", target_feature(enable = {ARM_FEATURES}))]'
@@ -93,20 +93,23 @@ class Form:
         marks, place = self.marks, "Self" if self.of else None
         if not marks.alone:
             self.package.roots.add(f"{self.name}_any")
-        calls = {it: self.function.call(f"{self.name}_{it}", place) for it in ("v3", "v4", "any", "by_instruction")}
+        calls = {it: self.function.call(f"{self.name}_{it}", place) for it in ("v3", marks.most, "any", "by_instruction")}
         which, first = f"by_{marks.level}", []
-        if marks.to_v4:
-            which, first = f"{which}_to_v4", [*calls["v4"], ","]
+        if marks.most:
+            which, first = f"{which}_to_{marks.most}", [*calls[marks.most], ","]
         if marks.much:
-            which, first = f"{which}_if", [*words_of(marks.much), ",", *(first if marks.to_v4 else [])]
+            which, first = f"{which}_if", [*words_of(marks.much), ",", *(first if marks.most else [])]
         elif marks.has("copied by instruction"):
             first = [*calls["by_instruction"], ","]
         goes_to = [*words_of(f"{NATIVE}::{which}!"), "(", *first, *calls["v3"], ",", *calls["any"], ")"]
         self.body = ["{", *goes_to, "}"]
         ours = OURS if marks.has("called at its level") else []
         v3 = [*ON_X86, *BY_FEATURES, *self.function.signature(f"{self.name}_v3"), "{", *calls["any"], "}"]
-        v4 = [*ON_X86, *BY_FEATURES, *BY_MORE_FEATURES, *self.function.signature(f"{self.name}_v4"), "{", *calls["any"], "}"]
-        return [*v3, *(v4 if marks.to_v4 else []), *ALWAYS, *ours, *of_any]
+        more = []
+        if marks.most:
+            how = [*ON_X86, *BY_FEATURES, *BY_MORE_FEATURES[marks.most]]
+            more = [*how, *self.function.signature(f"{self.name}_{marks.most}"), "{", *calls["any"], "}"]
+        return [*v3, *more, *ALWAYS, *ours, *of_any]
 
     # ---- public calls
 

@@ -85,7 +85,10 @@ IN_SCOPE = {"mask_tests": ["crate::host::AllocGlobal", "crate::host::Input", "cr
 NATIVE, TESTS = "crate::native", "crate::conditions"
 SAFETY = "// SAFETY: its answers are proved to be as the contract says."
 FEATURES = '"avx2,bmi1,bmi2,f16c,fma,lzcnt,movbe,popcnt"'
-MORE_FEATURES = '"avx512f,avx512bw,avx512cd,avx512dq,avx512vl"'
+MORE_FEATURES = {
+    "v4": '"avx512f,avx512bw,avx512cd,avx512dq,avx512vl"',
+    "vpopcntdq": '"avx512f,avx512bw,avx512cd,avx512dq,avx512vl,avx512vpopcntdq"',
+}
 ARM_FEATURES = '"sve2-bitperm"'
 
 # Methods of Rust's own lists, texts and iterators that end the program where memory is refused: calls, definitions and

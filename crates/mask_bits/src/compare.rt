@@ -159,7 +159,7 @@ fn none_in_block<C: BitOp, A: ReadWord, B: ReadWord>(
 
 /// How many values are true that `C` makes of the `len` bits of `a` from bit `a_offset` on and of those of
 /// `b` from bit `b_offset` on.
-// rust: level
+// rust: level to vpopcntdq
 #[tactic(auto, using(crate::proofs::CompareLemmas::counted))]
 pub fn count_true<C: BitOp>(
     a: &[u8],

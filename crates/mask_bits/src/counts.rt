@@ -8,7 +8,7 @@ ghost use Rattle.mask_bits.specs.Positions.{count};
 use crate::words::{word_at, word_of};
 
 /// How many of the `len` bits from bit `position` on are set.
-// rust: level
+// rust: level to vpopcntdq
 // rust: called at its level
 #[tactic(auto, using(crate::proofs::Lists::Words::BackingBitLemmas::low_counts))]
 pub fn count_bits(bytes: &[u8], position: usize, len: usize) -> usize

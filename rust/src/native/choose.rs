@@ -1,7 +1,9 @@
 //! Rows at the true values, by the loop for their size: several at once where the processor can.
 
 #[cfg(target_arch = "x86_64")]
-use super::processor::{Compressed, compresses, moves_fours};
+use super::has_vbmi2;
+#[cfg(target_arch = "x86_64")]
+use super::processor::{Compressed, CompressedNarrow, compresses, moves_fours};
 use super::processor::{Moved, moves_bytes};
 use crate::proved::mask_bits::choose::rows::{choose_rows, choose_small_rows};
 use crate::proved::mask_bits::choose::small_rows::MoveRows;
@@ -98,6 +100,10 @@ pub(crate) unsafe fn choose_several<T: Copy>(
     // SAFETY: a row is as many bytes as stand here, and this is asked here too.
     unsafe {
         match size_of::<T>() {
+            #[cfg(target_arch = "x86_64")]
+            1 if rows.len() > FEW_VALUES && has_vbmi2() => {
+                move_narrow::<FEW_BYTES, u8, T>(rows, chunks, out);
+            }
             1 if moves_bytes() => move_as::<FEW_BYTES, u8, Moved, T>(rows, chunks, out),
             #[cfg(target_arch = "x86_64")]
             size @ (2 | 4 | 8) => return move_wider(size, rows, chunks, out, count),
@@ -125,6 +131,7 @@ unsafe fn move_wider<T: Copy>(
     unsafe {
         if rows.len() > FEW_VALUES && (size < 8 || is_dense) && compresses() {
             match size {
+                2 if has_vbmi2() => move_narrow::<FEW_FOURS, [u8; 2], T>(rows, chunks, out),
                 2 => move_as::<FEW_FOURS, [u8; 2], Compressed, T>(rows, chunks, out),
                 4 => move_as::<FEW_FOURS, [u8; 4], Compressed, T>(rows, chunks, out),
                 _ => move_as::<FEW_EIGHTS, [u8; 8], Compressed, T>(rows, chunks, out),
@@ -139,6 +146,26 @@ unsafe fn move_wider<T: Copy>(
         }
     }
     true
+}
+
+/// The same of rows of one byte or two, by an instruction of VBMI2.
+///
+/// # Safety
+/// As there, and the processor has it, as `has_vbmi2` says.
+#[cfg(target_arch = "x86_64")]
+#[inline]
+unsafe fn move_narrow<const FEW: usize, B: Copy, T: Copy>(
+    rows: &[T],
+    chunks: &BitChunks<'_>,
+    out: &mut [MaybeUninit<T>],
+) where
+    CompressedNarrow: MoveRows<B>,
+{
+    // SAFETY: this is what is asked here. Each place gets a row's bytes, and none is read before.
+    unsafe {
+        let (rows, out) = as_byte_rows(rows, out);
+        move_by_vbmi2::<FEW, B>(rows, chunks, out);
+    }
 }
 
 /// Whether, with so many true values, so large a share is true that several wide rows are moved after one branch.
@@ -196,6 +223,16 @@ fn move_by_v4<const FEW: usize, T: Copy, M: MoveRows<T>>(
     out: &mut [T],
 ) {
     move_by_any::<FEW, T, M>(rows, chunks, out);
+}
+
+#[cfg(target_arch = "x86_64")]
+#[target_feature(enable = "avx2,bmi1,bmi2,f16c,fma,lzcnt,movbe,popcnt")]
+#[target_feature(enable = "avx512f,avx512bw,avx512cd,avx512dq,avx512vl,avx512vbmi2")]
+fn move_by_vbmi2<const FEW: usize, T: Copy>(rows: &[T], chunks: &BitChunks<'_>, out: &mut [T])
+where
+    CompressedNarrow: MoveRows<T>,
+{
+    move_by_any::<FEW, T, CompressedNarrow>(rows, chunks, out);
 }
 
 #[allow(clippy::inline_always, reason = "a copy is compiled for what the function around it has")]

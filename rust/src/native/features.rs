@@ -15,6 +15,21 @@ pub(crate) fn has_v4() -> bool {
     cfg!(not(target_feature = "avx512vl")) && found::all() & found::V4 != 0
 }
 
+/// Whether the processor has instructions of AVX-512 that put bytes and numbers of two bytes together (VBMI2), besides: that
+/// is asked in a program that is compiled for them too, since what is compiled for them asks for all of x86-64-v4.
+#[cfg(target_arch = "x86_64")]
+#[inline(always)]
+pub(crate) fn has_vbmi2() -> bool {
+    found::all() & found::VBMI2 != 0
+}
+
+/// Whether the processor has the instruction of AVX-512 that counts the set bits of words, besides.
+#[cfg(target_arch = "x86_64")]
+#[inline(always)]
+pub(crate) fn has_vpopcntdq() -> bool {
+    cfg!(not(target_feature = "avx512vpopcntdq")) && found::all() & found::VPOPCNTDQ != 0
+}
+
 /// Whether the processor has instructions for the bits at set places: on x86-64 PDEP and PEXT in a few cycles, and x86-64-v3,
 /// and on 64-bit ARM BDEP and BEXT.
 #[inline(always)]
@@ -41,6 +56,10 @@ pub(super) mod found {
     pub(in super::super) const V3: u8 = 4;
     #[cfg(target_arch = "x86_64")]
     pub(in super::super) const V4: u8 = 8;
+    #[cfg(target_arch = "x86_64")]
+    pub(in super::super) const VBMI2: u8 = 16;
+    #[cfg(target_arch = "x86_64")]
+    pub(in super::super) const VPOPCNTDQ: u8 = 32;
 
     static FOUND: AtomicU8 = AtomicU8::new(0);
 
@@ -99,7 +118,7 @@ pub(super) mod found {
             return 0;
         }
         let quick_bits = if is_before_zen_3() { 0 } else { QUICK_BITS };
-        let v4 = if has_avx512() { V4 } else { 0 };
+        let v4 = if has_avx512() { V4 | more_of_avx512() } else { 0 };
         V3 | quick_bits | v4
     }
 
@@ -111,6 +130,13 @@ pub(super) mod found {
     #[cfg(target_arch = "x86_64")]
     fn has_avx512() -> bool {
         has!("avx512f" "avx512bw" "avx512cd" "avx512dq" "avx512vl")
+    }
+
+    #[cfg(target_arch = "x86_64")]
+    fn more_of_avx512() -> u8 {
+        let vbmi2 = if has!("avx512vbmi2") { VBMI2 } else { 0 };
+        let vpopcntdq = if has!("avx512vpopcntdq") { VPOPCNTDQ } else { 0 };
+        vbmi2 | vpopcntdq
     }
 
     // AMD's processors before Zen 3 take up to hundreds of cycles for PDEP and PEXT.

@@ -1,11 +1,14 @@
 //! What the instructions give, by the manual of the processor. Nothing here runs unless `has_quick_bits` answers yes; for
-//! `fours_at`, `moves_fours`, and for `sixteen_fours_at` and `eights_at`, `compresses`.
+//! `fours_at`, `moves_fours`, for `sixteen_fours_at` and `eights_at`, `compresses`, and for `sixteen_bytes_at` and
+//! `sixteen_twos_at`, `has_vbmi2`.
 #![allow(clippy::inline_always, reason = "each is a few instructions of its caller")]
 
 use core::arch::x86_64::{
-    _mm_cvtsi64_si128, _mm256_cvtepu8_epi32, _mm256_loadu_si256, _mm256_permutevar8x32_epi32,
-    _mm256_storeu_si256, _mm512_loadu_si512, _mm512_maskz_compress_epi32,
-    _mm512_maskz_compress_epi64, _mm512_storeu_si512, _pdep_u64, _pext_u64,
+    _mm_cvtsi64_si128, _mm_loadu_si128, _mm_maskz_compress_epi8, _mm_storeu_si128,
+    _mm256_cvtepu8_epi32, _mm256_loadu_si256, _mm256_maskz_compress_epi16,
+    _mm256_permutevar8x32_epi32, _mm256_storeu_si256, _mm512_loadu_si512,
+    _mm512_maskz_compress_epi32, _mm512_maskz_compress_epi64, _mm512_storeu_si512, _pdep_u64,
+    _pext_u64,
 };
 use core::mem::MaybeUninit;
 
@@ -79,4 +82,31 @@ pub(super) fn eights_at<T: Copy>(rows: &[T], byte: u8) -> [T; 8] {
         _mm512_storeu_si512(moved.as_mut_ptr().cast(), rows);
         moved.assume_init()
     }
+}
+
+/// The rows of one byte at the set ones of sixteen bits, and zeros behind them, by VPCOMPRESSB.
+#[inline(always)]
+pub(super) fn sixteen_bytes_at(rows: &[u8], bits: u16) -> [u8; 16] {
+    let rows: &[u8; 16] = rows.first_chunk().expect("sixteen rows");
+    let mut moved = [0; 16];
+    // SAFETY: the processor has the instructions, as `has_vbmi2` found, and sixteen rows are as many bytes as a
+    // register has.
+    unsafe {
+        let rows = _mm_maskz_compress_epi8(bits, _mm_loadu_si128(rows.as_ptr().cast()));
+        _mm_storeu_si128(moved.as_mut_ptr().cast(), rows);
+    }
+    moved
+}
+
+/// The same of rows of two bytes, by VPCOMPRESSW.
+#[inline(always)]
+pub(super) fn sixteen_twos_at(rows: &[[u8; 2]], bits: u16) -> [[u8; 2]; 16] {
+    let rows: &[[u8; 2]; 16] = rows.first_chunk().expect("sixteen rows");
+    let mut moved = [[0; 2]; 16];
+    // SAFETY: as above.
+    unsafe {
+        let rows = _mm256_maskz_compress_epi16(bits, _mm256_loadu_si256(rows.as_ptr().cast()));
+        _mm256_storeu_si256(moved.as_mut_ptr().cast(), rows);
+    }
+    moved
 }

@@ -25,7 +25,20 @@ macro_rules! by_level_to_v4 {
 }
 pub(crate) use by_level_to_v4;
 
-/// The same where a condition tells whether there is so much to do that it pays to ask.
+/// The same of one that is compiled for x86-64-v4 with VPOPCNTDQ too, which counts the set bits of words.
+macro_rules! by_level_to_vpopcntdq {
+    ($vpopcntdq:expr, $v3:expr, $any:expr) => {{
+        #[cfg(target_arch = "x86_64")]
+        if crate::native::has_vpopcntdq() {
+            // SAFETY: the processor has what it is compiled for.
+            return unsafe { $vpopcntdq };
+        }
+        crate::native::by_level!($v3, $any)
+    }};
+}
+pub(crate) use by_level_to_vpopcntdq;
+
+/// That for x86-64-v4 where a condition tells whether there is so much to do that it pays to ask.
 macro_rules! by_level_to_v4_if {
     ($much:expr, $v4:expr, $v3:expr, $any:expr) => {{
         #[cfg(target_arch = "x86_64")]

@@ -43,6 +43,10 @@ pub struct Moved;
 #[cfg(target_arch = "x86_64")]
 pub(crate) struct Compressed;
 
+/// What moves those of one byte and of two by VBMI2.
+#[cfg(target_arch = "x86_64")]
+pub(crate) struct CompressedNarrow;
+
 impl MoveRows<u8> for Moved {
     #[inline(always)]
     fn push_sixteen<R: Room<u8>>(out: &mut R, rows: &[u8], bits: u16) {
@@ -97,6 +101,22 @@ impl MoveRows<[u8; 8]> for Compressed {
     #[inline(always)]
     fn push_sixteen<R: Room<[u8; 8]>>(out: &mut R, rows: &[[u8; 8]], bits: u16) {
         push_halves(out, rows, bits, instructions::eights_at);
+    }
+}
+
+#[cfg(target_arch = "x86_64")]
+impl MoveRows<u8> for CompressedNarrow {
+    #[inline(always)]
+    fn push_sixteen<R: Room<u8>>(out: &mut R, rows: &[u8], bits: u16) {
+        push_first(out, instructions::sixteen_bytes_at(rows, bits), bits.count_ones());
+    }
+}
+
+#[cfg(target_arch = "x86_64")]
+impl MoveRows<[u8; 2]> for CompressedNarrow {
+    #[inline(always)]
+    fn push_sixteen<R: Room<[u8; 2]>>(out: &mut R, rows: &[[u8; 2]], bits: u16) {
+        push_first(out, instructions::sixteen_twos_at(rows, bits), bits.count_ones());
     }
 }
 

@@ -159,7 +159,8 @@ pub fn count_true<C: BitOp>(
     b_offset: usize,
     len: usize,
 ) -> usize {
-    crate::native::by_level!(
+    crate::native::by_level_to_vpopcntdq!(
+        count_true_vpopcntdq::<C>(a, a_offset, b, b_offset, len),
         count_true_v3::<C>(a, a_offset, b, b_offset, len),
         count_true_any::<C>(a, a_offset, b, b_offset, len)
     )
@@ -168,6 +169,19 @@ pub fn count_true<C: BitOp>(
 #[cfg(target_arch = "x86_64")]
 #[target_feature(enable = "avx2,bmi1,bmi2,f16c,fma,lzcnt,movbe,popcnt")]
 fn count_true_v3<C: BitOp>(
+    a: &[u8],
+    a_offset: usize,
+    b: &[u8],
+    b_offset: usize,
+    len: usize,
+) -> usize {
+    count_true_any::<C>(a, a_offset, b, b_offset, len)
+}
+
+#[cfg(target_arch = "x86_64")]
+#[target_feature(enable = "avx2,bmi1,bmi2,f16c,fma,lzcnt,movbe,popcnt")]
+#[target_feature(enable = "avx512f,avx512bw,avx512cd,avx512dq,avx512vl,avx512vpopcntdq")]
+fn count_true_vpopcntdq<C: BitOp>(
     a: &[u8],
     a_offset: usize,
     b: &[u8],

@@ -7,7 +7,8 @@ use crate::proved::mask_bits::words::{word_at, word_of};
 /// How many of the `len` bits from bit `position` on are set.
 #[inline]
 pub fn count_bits(bytes: &[u8], position: usize, len: usize) -> usize {
-    crate::native::by_level!(
+    crate::native::by_level_to_vpopcntdq!(
+        count_bits_vpopcntdq(bytes, position, len),
         count_bits_v3(bytes, position, len),
         count_bits_any(bytes, position, len)
     )
@@ -16,6 +17,13 @@ pub fn count_bits(bytes: &[u8], position: usize, len: usize) -> usize {
 #[cfg(target_arch = "x86_64")]
 #[target_feature(enable = "avx2,bmi1,bmi2,f16c,fma,lzcnt,movbe,popcnt")]
 fn count_bits_v3(bytes: &[u8], position: usize, len: usize) -> usize {
+    count_bits_any(bytes, position, len)
+}
+
+#[cfg(target_arch = "x86_64")]
+#[target_feature(enable = "avx2,bmi1,bmi2,f16c,fma,lzcnt,movbe,popcnt")]
+#[target_feature(enable = "avx512f,avx512bw,avx512cd,avx512dq,avx512vl,avx512vpopcntdq")]
+fn count_bits_vpopcntdq(bytes: &[u8], position: usize, len: usize) -> usize {
     count_bits_any(bytes, position, len)
 }
 
