@@ -11,6 +11,10 @@ use core::ops::{Range, RangeBounds};
 
 pub(crate) const INDICES_OF_A_BLOCK: usize = 256;
 
+// So few values are counted in less time word by word than several words at once, where they begin at a whole byte and a
+// program is compiled for POPCNT.
+const FEW: usize = 4_096;
+
 impl<'a> Bitmap<'a> {
     /// How many values are true. Of a mask it is called `true_count`.
     #[doc(alias("true_count", "count_set_bits", "count_ones"))]
@@ -25,6 +29,12 @@ impl<'a> Bitmap<'a> {
                 // (of the last word those values that the first one doesn't have)
                 let last = u128::from(word(self.len - 64)) >> (128 - self.len);
                 (word(0).count_ones() + last.count_ones()) as usize
+            }
+            129..=FEW if cfg!(target_feature = "popcnt") && self.offset().is_multiple_of(8) => {
+                let chunks = self.chunks();
+                let last = chunks.remainder_bits().count_ones() as usize;
+                (0..chunks.len())
+                    .fold(last, |sum, i| sum + chunks.word_proved(i).count_ones() as usize)
             }
             _ => mask_c::row_mask_count(self.bytes(), self.offset(), self.len()),
         }
