@@ -120,7 +120,7 @@ bool row_mask_value(
     size_t i) ROW_MASK_LOOP(value);
 
 /* Writes words of 64 values, from word `from` on, to the front of `out`, as many as there are or as
- * `out` takes, the last perhaps in part, and answers how many these are: none from past the end.
+ * `out` takes, the last perhaps in part, and returns how many these are: none from past the end.
  * Bit `j` of word `i` is value `64 * i + j`, and 0 past the last value. So a walk over all words
  * goes on from one past the last, until fewer come than `out` takes. */
 ROW_MASK_READ(1, 2) ROW_MASK_WRITE(6, 7)
@@ -178,8 +178,8 @@ size_t row_mask_last_index(
     const uint8_t *bytes, size_t bytes_size, size_t offset, size_t len) ROW_MASK_LOOP(last_index);
 
 /* Writes the indices of the true values from `from` on, ascending, to the front of `out`, as many
- * as there are or as it takes, and answers how many these are: none from past the end. So a walk
- * over all goes on from one past the last, until fewer come than `out` takes. Behind them `out` may
+ * as there are or as it takes, and returns how many these are: none from past the end. So a walk
+ * over all goes on from one past the last, until fewer come than `out` takes. After them `out` may
  * have other numbers than before. */
 ROW_MASK_READ(1, 2) ROW_MASK_WRITE(6, 7)
 size_t row_mask_next_indices(
@@ -203,7 +203,7 @@ row_mask_run row_mask_next_run(
     size_t from) ROW_MASK_LOOP(next_run);
 
 /* Writes the runs of true values from `from` on, ascending, to the front of `out`, as many as there
- * are or as it takes, and answers how many these are: none from past the end. A run that `from` is
+ * are or as it takes, and returns how many these are: none from past the end. A run that `from` is
  * inside begins there. So a walk over all runs goes on from the end of the last, until fewer come
  * than `out` takes. What is behind them in `out` stays as it was. */
 ROW_MASK_READ(1, 2) ROW_MASK_WRITE(6, 7)
@@ -443,7 +443,7 @@ void row_mask_intersect_at_ranks(
 /* Writes the next words of a bitmap, from word `from` on, to `words`, and for each to `sources` the
  * 64 bits of `ranks` from the number of true values before that word on. Bit `j` of word `i` is
  * value `64 * i + j`, and 0 past the last value; a source has there what the bytes of `ranks` have,
- * and then 0. The answer is how many values are true before the word after these, which is `at` for
+ * and then 0. The result is how many values are true before the word after these, which is `at` for
  * the next call. So whoever deposits each source at its word, as the instruction `pdep` does, has
  * the words of the rank intersection.
  *
@@ -457,7 +457,7 @@ size_t row_mask_rank_words(
     size_t at, uint64_t *words, size_t words_count,
     uint64_t *sources, size_t sources_count) ROW_MASK_LOOP(rank_words);
 
-/* Writes the rows at the true values, in their order, to the front of `out`, and answers how many
+/* Writes the rows at the true values, in their order, to the front of `out`, and returns how many
  * they are. A row has 1 byte. Behind these rows, `out` may have others than before.
  *
  * Asks that `rows_count == len`, and that `out_count` is at least the count of the true values. */
@@ -466,7 +466,7 @@ size_t row_mask_choose_1(
     const uint8_t *bytes, size_t bytes_size, size_t offset, size_t len,
     const uint8_t *rows, size_t rows_count, uint8_t *out, size_t out_count) ROW_MASK_LOOP(choose_1);
 
-/* Writes the rows at the true values, in their order, to the front of `out`, and answers how many
+/* Writes the rows at the true values, in their order, to the front of `out`, and returns how many
  * they are. A row has 2 bytes. Behind these rows, `out` may have others than before.
  *
  * Asks that `rows_count == len`, and that `out_count` is at least the count of the true values. */
@@ -476,7 +476,7 @@ size_t row_mask_choose_2(
     const uint16_t *rows, size_t rows_count,
     uint16_t *out, size_t out_count) ROW_MASK_LOOP(choose_2);
 
-/* Writes the rows at the true values, in their order, to the front of `out`, and answers how many
+/* Writes the rows at the true values, in their order, to the front of `out`, and returns how many
  * they are. A row has 4 bytes. Behind these rows, `out` may have others than before.
  *
  * Asks that `rows_count == len`, and that `out_count` is at least the count of the true values. */
@@ -486,7 +486,7 @@ size_t row_mask_choose_4(
     const uint32_t *rows, size_t rows_count,
     uint32_t *out, size_t out_count) ROW_MASK_LOOP(choose_4);
 
-/* Writes the rows at the true values, in their order, to the front of `out`, and answers how many
+/* Writes the rows at the true values, in their order, to the front of `out`, and returns how many
  * they are. A row has 8 bytes. Behind these rows, `out` may have others than before.
  *
  * Asks that `rows_count == len`, and that `out_count` is at least the count of the true values. */
@@ -496,7 +496,7 @@ size_t row_mask_choose_8(
     const uint64_t *rows, size_t rows_count,
     uint64_t *out, size_t out_count) ROW_MASK_LOOP(choose_8);
 
-/* Writes the rows at the true values, in their order, to the front of `out`, and answers how many
+/* Writes the rows at the true values, in their order, to the front of `out`, and returns how many
  * they are. A row has 16 bytes. Behind these rows, `out` may have others than before.
  *
  * Asks that `rows_count == len`, and that `out_count` is at least the count of the true values. */
@@ -506,7 +506,7 @@ size_t row_mask_choose_16(
     const row_mask_16 *rows, size_t rows_count,
     row_mask_16 *out, size_t out_count) ROW_MASK_LOOP(choose_16);
 
-/* Writes the values of `values` at the true values of the bitmap, in their order, and answers how
+/* Writes the values of `values` at the true values of the bitmap, in their order, and returns how
  * many they are. So the validity of a column is filtered with its rows.
  *
  * Asks that `out_size >= row_mask_room(count)`, where `count` is the count of the bitmap's true
@@ -628,7 +628,7 @@ void row_mask_take_bits_by_4(
     uint8_t *out, size_t out_size) ROW_MASK_LOOP(take_bits_by_4);
 
 /* Writes the offsets of the strings at the true values to the front of `out`: 0, and then where
- * each of these ends if they stand one behind the other. Answers how many bytes they have, which is
+ * each of these ends if they stand one after the other. Returns how many bytes they have, which is
  * the room for `row_mask_choose_bytes_4`. String `i` has the bytes from `offsets[i]` to
  * `offsets[i + 1]`, and an offset has 4 bytes.
  *
@@ -641,7 +641,7 @@ size_t row_mask_choose_offsets_4(
     uint32_t *out, size_t out_count) ROW_MASK_LOOP(choose_offsets_4);
 
 /* Writes the offsets of the strings at the true values to the front of `out`: 0, and then where
- * each of these ends if they stand one behind the other. Answers how many bytes they have, which is
+ * each of these ends if they stand one after the other. Returns how many bytes they have, which is
  * the room for `row_mask_choose_bytes_8`. String `i` has the bytes from `offsets[i]` to
  * `offsets[i + 1]`, and an offset has 8 bytes.
  *
@@ -654,10 +654,10 @@ size_t row_mask_choose_offsets_8(
     uint64_t *out, size_t out_count) ROW_MASK_LOOP(choose_offsets_8);
 
 /* Writes the offsets of the strings at `indices` to the front of `out`: 0, and then where each of
- * these ends if they stand one behind the other, in the order of the indices. Answers how many
- * bytes they have, which is the room for `row_mask_take_bytes_4`. Indices may come in any order and
- * more than once. String `i` has the bytes from `offsets[i]` to `offsets[i + 1]`, and an offset has
- * 4 bytes.
+ * these ends if they stand one after the other, in the order of the indices. Returns how many bytes
+ * they have, which is the room for `row_mask_take_bytes_4`. Indices may come in any order and more
+ * than once. String `i` has the bytes from `offsets[i]` to `offsets[i + 1]`, and an offset has 4
+ * bytes.
  *
  * Asks that each index is below `offsets_count - 1`, that no offset is below the one before it,
  * that the bytes are fewer than 2 to the 32, as they are where no index comes twice, and that
@@ -668,10 +668,10 @@ size_t row_mask_take_offsets_4(
     uint32_t *out, size_t out_count) ROW_MASK_LOOP(take_offsets_4);
 
 /* Writes the offsets of the strings at `indices` to the front of `out`: 0, and then where each of
- * these ends if they stand one behind the other, in the order of the indices. Answers how many
- * bytes they have, which is the room for `row_mask_take_bytes_8`. Indices may come in any order and
- * more than once. String `i` has the bytes from `offsets[i]` to `offsets[i + 1]`, and an offset has
- * 8 bytes.
+ * these ends if they stand one after the other, in the order of the indices. Returns how many bytes
+ * they have, which is the room for `row_mask_take_bytes_8`. Indices may come in any order and more
+ * than once. String `i` has the bytes from `offsets[i]` to `offsets[i + 1]`, and an offset has 8
+ * bytes.
  *
  * Asks that each index is below `offsets_count - 1`, that no offset is below the one before it,
  * that the bytes are fewer than 2 to the 64, as they are where no index comes twice, and that
@@ -682,12 +682,12 @@ size_t row_mask_take_offsets_8(
     uint64_t *out, size_t out_count) ROW_MASK_LOOP(take_offsets_8);
 
 /* Writes the bytes of the strings at the true values, one string behind another, to the front of
- * `out`, and answers how many these are. String `i` has the bytes from `offsets[i]` to
+ * `out`, and returns how many these are. String `i` has the bytes from `offsets[i]` to
  * `offsets[i + 1]`, and an offset has 4 bytes.
  *
  * Asks that `offsets_count == len + 1`, that no offset is below the one before it and the last is
  * at most `string_bytes_size`, and that `out_size` is at least what `row_mask_choose_offsets_4`
- * answers. */
+ * returns. */
 ROW_MASK_READ(1, 2) ROW_MASK_READ(5, 6) ROW_MASK_READ(7, 8) ROW_MASK_WRITE(9, 10)
 size_t row_mask_choose_bytes_4(
     const uint8_t *bytes, size_t bytes_size, size_t offset, size_t len,
@@ -696,12 +696,12 @@ size_t row_mask_choose_bytes_4(
     uint8_t *out, size_t out_size) ROW_MASK_LOOP(choose_bytes_4);
 
 /* Writes the bytes of the strings at the true values, one string behind another, to the front of
- * `out`, and answers how many these are. String `i` has the bytes from `offsets[i]` to
+ * `out`, and returns how many these are. String `i` has the bytes from `offsets[i]` to
  * `offsets[i + 1]`, and an offset has 8 bytes.
  *
  * Asks that `offsets_count == len + 1`, that no offset is below the one before it and the last is
  * at most `string_bytes_size`, and that `out_size` is at least what `row_mask_choose_offsets_8`
- * answers. */
+ * returns. */
 ROW_MASK_READ(1, 2) ROW_MASK_READ(5, 6) ROW_MASK_READ(7, 8) ROW_MASK_WRITE(9, 10)
 size_t row_mask_choose_bytes_8(
     const uint8_t *bytes, size_t bytes_size, size_t offset, size_t len,
@@ -709,26 +709,26 @@ size_t row_mask_choose_bytes_8(
     const uint8_t *string_bytes, size_t string_bytes_size,
     uint8_t *out, size_t out_size) ROW_MASK_LOOP(choose_bytes_8);
 
-/* Writes the bytes of the strings at `indices`, in their order and one behind another, to the front
- * of `out`, and answers how many these are. Indices may come in any order and more than once.
+/* Writes the bytes of the strings at `indices`, in their order and one after another, to the front
+ * of `out`, and returns how many these are. Indices may come in any order and more than once.
  * String `i` has the bytes from `offsets[i]` to `offsets[i + 1]`, and an offset has 4 bytes.
  *
  * Asks that each index is below `offsets_count - 1`, that no offset is below the one before it and
  * the last is at most `string_bytes_size`, and that `out_size` is at least what
- * `row_mask_take_offsets_4` answers. */
+ * `row_mask_take_offsets_4` returns. */
 ROW_MASK_READ(1, 2) ROW_MASK_READ(3, 4) ROW_MASK_READ(5, 6) ROW_MASK_WRITE(7, 8)
 size_t row_mask_take_bytes_4(
     const size_t *indices, size_t indices_count, const uint32_t *offsets, size_t offsets_count,
     const uint8_t *string_bytes, size_t string_bytes_size,
     uint8_t *out, size_t out_size) ROW_MASK_LOOP(take_bytes_4);
 
-/* Writes the bytes of the strings at `indices`, in their order and one behind another, to the front
- * of `out`, and answers how many these are. Indices may come in any order and more than once.
+/* Writes the bytes of the strings at `indices`, in their order and one after another, to the front
+ * of `out`, and returns how many these are. Indices may come in any order and more than once.
  * String `i` has the bytes from `offsets[i]` to `offsets[i + 1]`, and an offset has 8 bytes.
  *
  * Asks that each index is below `offsets_count - 1`, that no offset is below the one before it and
  * the last is at most `string_bytes_size`, and that `out_size` is at least what
- * `row_mask_take_offsets_8` answers. */
+ * `row_mask_take_offsets_8` returns. */
 ROW_MASK_READ(1, 2) ROW_MASK_READ(3, 4) ROW_MASK_READ(5, 6) ROW_MASK_WRITE(7, 8)
 size_t row_mask_take_bytes_8(
     const size_t *indices, size_t indices_count, const uint64_t *offsets, size_t offsets_count,

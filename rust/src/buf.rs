@@ -23,7 +23,7 @@ mod read;
 /// ```
 #[derive(Clone, Default, PartialEq, Eq, Hash)]
 pub struct BitmapBuf {
-    // just those that the values take, with the bits behind the last value clear: equal lists have equal bytes
+    // just those that the values take, with the bits after the last value clear: equal lists have equal bytes
     pub(crate) bytes: Vec<u8>,
     pub(crate) len: usize,
 }
@@ -57,7 +57,7 @@ impl BitmapBuf {
         self.as_bitmap().iter()
     }
 
-    /// The bytes that have the values. The bits behind the last value are clear, so equal lists have equal bytes.
+    /// The bytes that have the values. The bits after the last value are clear, so equal lists have equal bytes.
     #[must_use]
     #[inline]
     pub fn as_bytes(&self) -> &[u8] {

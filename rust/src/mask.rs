@@ -1,5 +1,5 @@
 //! What users of Rust expect of masks and buffers besides the proved calls: operators, clones, hashes, and makers from
-//! iterators. They answer no `Result`: where memory is refused they end the process, as Rust's own lists do.
+//! iterators. They return no `Result`: where memory is refused they end the process, as Rust's own lists do.
 
 mod answers;
 mod cached;
@@ -204,7 +204,7 @@ impl fmt::Debug for BitBufferMut {
     }
 }
 
-/// Adds values behind the last one. They are listed first.
+/// Adds values after the last one. They are listed first.
 impl Extend<bool> for BitBufferMut {
     fn extend<I: IntoIterator<Item = bool>>(&mut self, values: I) {
         let values = BitBuffer::from_iter(values);

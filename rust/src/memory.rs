@@ -1,4 +1,4 @@
-//! Memory that is refused to a call which answers no `Result`.
+//! Memory that is refused to a call which returns no `Result`.
 
 use crate::proved::vortex_mask::MaskError;
 use alloc::alloc::{Layout, handle_alloc_error};

@@ -17,7 +17,7 @@
 /// ```
 ///
 /// # Safety
-/// A value is plain bytes, each of them written: there is no padding between its fields or behind the last one.
+/// A value is plain bytes, each of them written: there is no padding between its fields or after the last one.
 #[diagnostic::on_unimplemented(
     message = "a bitmap can't choose rows of `{Self}`",
     label = "`{Self}` isn't known to be plain bytes",

@@ -183,7 +183,7 @@ impl Selection {
         unsafe { rows_of(self.count, |out, _| self.choose_to(rows, out)) }
     }
 
-    /// As [`choose`](Self::choose), behind the items of a list.
+    /// As [`choose`](Self::choose), after the items of a list.
     ///
     /// # Errors
     /// As there. Then the list is as it was.

@@ -32,7 +32,7 @@ pub fn intersect_sorted<I: RowIndex>(left: &[I], right: &[I]) -> Result<Vec<I>, 
     Ok(list)
 }
 
-/// As [`intersect_sorted`], to the front of `out`. It answers how many these are. Behind them `out` may have other indices
+/// As [`intersect_sorted`], to the front of `out`. It returns how many these are. After them `out` may have other indices
 /// than before, as far as the shorter list would reach.
 ///
 /// # Errors
@@ -71,7 +71,7 @@ impl Bitmap<'_> {
         Ok(list)
     }
 
-    /// As [`true_among`](Self::true_among), to the front of `out`. It answers how many these are. Behind them `out` may have
+    /// As [`true_among`](Self::true_among), to the front of `out`. It returns how many these are. After them `out` may have
     /// other indices than before, as far as the list would reach.
     ///
     /// # Errors

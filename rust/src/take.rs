@@ -24,7 +24,7 @@ pub fn take<T: Copy, I: RowIndex>(indices: &[I], rows: &[T]) -> Result<Vec<T>, E
     unsafe { list_of(indices.len(), |out| rows_at(indices, as_cells(rows), out)) }
 }
 
-/// As [`take`], behind the items of a list.
+/// As [`take`], after the items of a list.
 ///
 /// # Errors
 /// As there. Then the list is as it was.
@@ -139,7 +139,7 @@ impl<O: Offset> Strings<'_, O> {
         }
     }
 
-    /// Writes where the values at a list of indices begin and end to the front of `out`, from 0 on, and answers how many
+    /// Writes where the values at a list of indices begin and end to the front of `out`, from 0 on, and returns how many
     /// bytes they have.
     ///
     /// # Errors
@@ -151,7 +151,7 @@ impl<O: Offset> Strings<'_, O> {
         Ok(size)
     }
 
-    /// Writes the bytes of the values at a list of indices to the front of `out`, and answers how many these are.
+    /// Writes the bytes of the values at a list of indices to the front of `out`, and returns how many these are.
     ///
     /// # Errors
     /// [`Error::IndexOutOfBounds`] and [`Error::OffsetTooGreat`] as of [`take`](Self::take), and [`Error::RoomTooSmall`]

@@ -1,4 +1,4 @@
-//! Buffers of what a test answers of each row.
+//! Buffers of what a test returns for each row.
 
 ghost use Rattle.std.specs.Prelude.{◌≡◌, ◌+◌, ◌*◌, ◌≤◌, ◌++◌, ℕ, List, IfOk, length, take, vec_len};
 ghost use Rattle.std.specs.Fn.{FnReturnsAt};
@@ -22,7 +22,7 @@ use std::mem::size_of_val;
 const WIDE: usize = 64 * 8;
 
 impl BitBuffer {
-    /// What a test answers of each row, in their order: value `i` is its answer of row `i`. The
+    /// What a test returns for each row, in their order: value `i` is its result for row `i`. The
     /// answers are packed as they come, 64 to a word, and are listed nowhere else.
     // rust: level to v4
     // rust: named try_from_rows
@@ -60,7 +60,7 @@ pub fn words_of_answers<T, F: Fn(&T) -> bool>(
     Ok(bytes)
 }
 
-// Writes what a test answers of rows to the front of `bytes`, which is room of whole words, a word at a time.
+// Writes what a test returns for rows to the front of `bytes`, which is room of whole words, a word at a time.
 #[inline(always)]
 fn put_answers<T, F: Fn(&T) -> bool>(bytes: &mut [u8], rows: &[T], test: &F)
     requires room { 8 * started_words (length rows.now) ≤ length bytes.old }
@@ -76,7 +76,7 @@ fn put_answers<T, F: Fn(&T) -> bool>(bytes: &mut [u8], rows: &[T], test: &F)
     }
 }
 
-// The word of what a test answers of 64 rows, the first lowest.
+// The word of what a test returns for 64 rows, the first lowest.
 #[inline(always)]
 pub(crate) fn word_of_whole<T, F: Fn(&T) -> bool>(rows: &[T], test: &F) -> u64
     requires whole { length rows.now ≡ 64 }
@@ -106,7 +106,7 @@ fn word_of_halves<T, F: Fn(&T) -> bool>(rows: &[T], test: &F) -> u64
     word
 }
 
-// What a test answers of 32 rows, the first lowest, with zeros past them.
+// What a test returns for 32 rows, the first lowest, with zeros past them.
 #[inline(always)]
 fn bits_of_half<T, F: Fn(&T) -> bool>(rows: &[T], test: &F) -> u64
     requires whole { length rows.now ≡ 32 }
@@ -134,7 +134,7 @@ fn word_of_sixteens<T, F: Fn(&T) -> bool>(rows: &[T], test: &F) -> u64
     word
 }
 
-// What a test answers of sixteen rows, the first lowest, with zeros past them.
+// What a test returns for sixteen rows, the first lowest, with zeros past them.
 #[inline(always)]
 fn bits_of_sixteen<T, F: Fn(&T) -> bool>(rows: &[T], test: &F) -> u64
     requires whole { length rows.now ≡ 16 }
@@ -147,7 +147,7 @@ fn bits_of_sixteen<T, F: Fn(&T) -> bool>(rows: &[T], test: &F) -> u64
     word_of_sixteen_lanes(&lanes)
 }
 
-// The word of what a test answers of at most 64 rows, the first lowest, with zeros past them.
+// The word of what a test returns for at most 64 rows, the first lowest, with zeros past them.
 //
 // An answer is a lane of its own, so that several rows are tested at once where the test allows it, and all lanes
 // become bits together. Always inlined, as the packing of a list's values.
@@ -167,7 +167,7 @@ pub(crate) fn word_of_rows<T, F: Fn(&T) -> bool>(rows: &[T], test: &F) -> u64
     word_of_lanes(&lanes)
 }
 
-// Writes what a test answers of some rows to the lanes behind the first `at`. Of sixteen rows, the lanes of a vector,
+// Writes what a test returns for some rows to the lanes behind the first `at`. Of sixteen rows, the lanes of a vector,
 // no loop is left.
 #[inline(always)]
 fn put_lanes<const N: usize, T, F: Fn(&T) -> bool>(

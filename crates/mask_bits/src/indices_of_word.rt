@@ -33,7 +33,7 @@ impl<N: RowIndex> WordItems for IndicesFrom<N> {
 }
 
 /// Writes `first` and the indices of the set bits of a word from there on behind the first `at` indices, as many as there
-/// is room for, and answers how many there are then.
+/// is room for, and returns how many there are then.
 #[inline(always)]
 pub fn put_indices<N: RowIndex>(word: u64, first: usize, out: &mut [N], at: usize) -> usize
     requires fits { All (λ p. first + p < 2 ^ 64) (positions (word_bits word)) }

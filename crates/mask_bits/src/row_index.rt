@@ -17,7 +17,7 @@ pub trait RowIndex: Copy {
     fn get(self) -> usize
         ensures { result ≡ row_number self };
 
-    /// All numbers are taken, since loops that put several indices at a time put some behind the last one, and drop them.
+    /// All numbers are taken, since loops that put several indices at a time put some after the last one, and drop them.
     fn of(n: usize) -> Self
         ensures { result ≡ index_of n };
 

@@ -11,7 +11,7 @@ use crate::last::put_remainder;
 use mask_bits::BitChunks;
 use mask_bits::choose::bits::put_chosen;
 
-/// Writes the values of `values` at the true values of the bitmap, in their order, and answers how many
+/// Writes the values of `values` at the true values of the bitmap, in their order, and returns how many
 /// they are. So the validity of a column is filtered with its rows.
 ///
 /// Asks that `out_size >= row_mask_room(count)`, where `count` is the count of the bitmap's true values.

@@ -44,8 +44,8 @@ pub extern "C" fn row_mask_last_index(bytes: &[u8], offset: usize, len: usize) -
 }
 
 /// Writes the indices of the true values from `from` on, ascending, to the front of `out`, as many as there are or as
-/// it takes, and answers how many these are: none from past the end. So a walk over all goes on from one past the last,
-/// until fewer come than `out` takes. Behind them `out` may have other numbers than before.
+/// it takes, and returns how many these are: none from past the end. So a walk over all goes on from one past the last,
+/// until fewer come than `out` takes. After them `out` may have other numbers than before.
 // rust: level
 #[unsafe(no_mangle)]
 #[tactic(auto, using(crate::proofs::StringLemmas::number_itself))]
@@ -124,7 +124,7 @@ fn next_indices<const BYTES: bool, N: RowIndex>(
 const LEAST_ROOM: usize = 64 + SPARE;
 
 // Puts those of the first blocks of four words, as many as there is room for, where the first value has the
-// index `from`. Answers the number of the first word behind them.
+// index `from`. Returns the number of the first word behind them.
 #[inline(always)]
 fn indices_of_blocks<const BYTES: bool, N: RowIndex, R: Room<N>>(
     chunks: &BitChunks,
@@ -174,7 +174,7 @@ fn put_block<const BYTES: bool, N: RowIndex, R: Room<N>>(
     }
 }
 
-// Writes the indices of the true values of started word `i` to the front of `block`, and answers how many these are.
+// Writes the indices of the true values of started word `i` to the front of `block`, and returns how many these are.
 #[inline]
 pub(crate) fn indices_in_word(chunks: &BitChunks, i: usize, block: &mut [usize; 64]) -> usize
     requires within { i < started_words (length chunks.now) }

@@ -11,7 +11,7 @@ use vortex_mask::intersect_by_rank::RankBits;
 
 /// Writes the next words of a bitmap, from word `from` on, to `words`, and for each to `sources` the 64 bits of `ranks`
 /// from the number of true values before that word on. Bit `j` of word `i` is value `64 * i + j`, and 0 past the last
-/// value; a source has there what the bytes of `ranks` have, and then 0. The answer is how many values are true before
+/// value; a source has there what the bytes of `ranks` have, and then 0. The result is how many values are true before
 /// the word after these, which is `at` for the next call. So whoever deposits each source at its word, as the
 /// instruction `pdep` does, has the words of the rank intersection.
 ///

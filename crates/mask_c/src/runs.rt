@@ -36,7 +36,7 @@ pub extern "C" fn row_mask_next_run(
 }
 
 /// Writes the runs of true values from `from` on, ascending, to the front of `out`, as many as there are or
-/// as it takes, and answers how many these are: none from past the end. A run that `from` is inside begins
+/// as it takes, and returns how many these are: none from past the end. A run that `from` is inside begins
 /// there. So a walk over all runs goes on from the end of the last, until fewer come than `out` takes.
 /// What is behind them in `out` stays as it was.
 #[unsafe(no_mangle)]

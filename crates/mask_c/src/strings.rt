@@ -14,11 +14,11 @@ use mask_bits::BitChunks;
 use mask_bits::indices_of_word::put_indices;
 
 /// Writes the bytes of the strings at the true values, one string behind another, to the front of `out`, and
-/// answers how many these are. String `i` has the bytes from `offsets[i]` to `offsets[i + 1]`, and an offset
+/// returns how many these are. String `i` has the bytes from `offsets[i]` to `offsets[i + 1]`, and an offset
 /// has 4 bytes.
 ///
 /// Asks that `offsets_count == len + 1`, that no offset is below the one before it and the last is at most
-/// `string_bytes_size`, and that `out_size` is at least what `row_mask_choose_offsets_4` answers.
+/// `string_bytes_size`, and that `out_size` is at least what `row_mask_choose_offsets_4` returns.
 #[unsafe(no_mangle)]
 #[tactic(auto, using(crate::proofs::StringLemmas::number_itself))]
 pub extern "C" fn row_mask_choose_bytes_4(
@@ -48,11 +48,11 @@ pub extern "C" fn row_mask_choose_bytes_4(
 }
 
 /// Writes the bytes of the strings at the true values, one string behind another, to the front of `out`, and
-/// answers how many these are. String `i` has the bytes from `offsets[i]` to `offsets[i + 1]`, and an offset
+/// returns how many these are. String `i` has the bytes from `offsets[i]` to `offsets[i + 1]`, and an offset
 /// has 8 bytes.
 ///
 /// Asks that `offsets_count == len + 1`, that no offset is below the one before it and the last is at most
-/// `string_bytes_size`, and that `out_size` is at least what `row_mask_choose_offsets_8` answers.
+/// `string_bytes_size`, and that `out_size` is at least what `row_mask_choose_offsets_8` returns.
 #[unsafe(no_mangle)]
 #[tactic(auto, using(crate::proofs::StringLemmas::number_itself))]
 pub extern "C" fn row_mask_choose_bytes_8(
@@ -81,12 +81,12 @@ pub extern "C" fn row_mask_choose_bytes_8(
     )
 }
 
-/// Writes the bytes of the strings at `indices`, in their order and one behind another, to the front of
-/// `out`, and answers how many these are. Indices may come in any order and more than once. String `i` has
+/// Writes the bytes of the strings at `indices`, in their order and one after another, to the front of
+/// `out`, and returns how many these are. Indices may come in any order and more than once. String `i` has
 /// the bytes from `offsets[i]` to `offsets[i + 1]`, and an offset has 4 bytes.
 ///
 /// Asks that each index is below `offsets_count - 1`, that no offset is below the one before it and the last
-/// is at most `string_bytes_size`, and that `out_size` is at least what `row_mask_take_offsets_4` answers.
+/// is at most `string_bytes_size`, and that `out_size` is at least what `row_mask_take_offsets_4` returns.
 #[unsafe(no_mangle)]
 #[tactic(auto, using(crate::proofs::StringLemmas::number_itself))]
 pub extern "C" fn row_mask_take_bytes_4(
@@ -107,12 +107,12 @@ pub extern "C" fn row_mask_take_bytes_4(
     put_strings(indices, offsets, string_bytes, out, 0)
 }
 
-/// Writes the bytes of the strings at `indices`, in their order and one behind another, to the front of
-/// `out`, and answers how many these are. Indices may come in any order and more than once. String `i` has
+/// Writes the bytes of the strings at `indices`, in their order and one after another, to the front of
+/// `out`, and returns how many these are. Indices may come in any order and more than once. String `i` has
 /// the bytes from `offsets[i]` to `offsets[i + 1]`, and an offset has 8 bytes.
 ///
 /// Asks that each index is below `offsets_count - 1`, that no offset is below the one before it and the last
-/// is at most `string_bytes_size`, and that `out_size` is at least what `row_mask_take_offsets_8` answers.
+/// is at most `string_bytes_size`, and that `out_size` is at least what `row_mask_take_offsets_8` returns.
 #[unsafe(no_mangle)]
 #[tactic(auto, using(crate::proofs::StringLemmas::number_itself))]
 pub extern "C" fn row_mask_take_bytes_8(
@@ -163,7 +163,7 @@ fn choose_strings<O: Offset>(
     put_strings(&block[..waiting], offsets, string_bytes, out, at)
 }
 
-// Writes the strings that wait if these and `more` are above 64. Answers how many wait then, and how many bytes
+// Writes the strings that wait if these and `more` are above 64. Returns how many wait then, and how many bytes
 // are written.
 #[inline]
 fn put_if_full<O: Offset>(
@@ -196,7 +196,7 @@ fn put_if_full<O: Offset>(
     (0, put_strings(waiting, offsets, string_bytes, out, at))
 }
 
-// Writes the strings at some indices behind the first `at` bytes, and answers how many bytes there are
+// Writes the strings at some indices behind the first `at` bytes, and returns how many bytes there are
 // then.
 // rust: visible
 #[inline]
@@ -281,7 +281,7 @@ fn put_runs<O: Offset>(
 }
 
 // The part of the bytes from `begin` to `end` waits to be copied. It goes on if the next string begins
-// where it ends. Else it is copied, and a part begins there. Answers where the part begins that waits
+// where it ends. Else it is copied, and a part begins there. Returns where the part begins that waits
 // then, and how many bytes are written.
 #[inline]
 fn part_before(

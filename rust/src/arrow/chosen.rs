@@ -39,7 +39,7 @@ impl<'a> Column<'a> {
         Ok(made.finish(rows.count(), null_count)?)
     }
 
-    /// Makes the bitmap that says which rows are null, and answers how many.
+    /// Makes the bitmap that says which rows are null, and returns how many.
     fn validity(self, rows: &Selection, made: &mut Made) -> Result<usize, ArrowError> {
         if self.array().null_count == 0 || self.is_absent(0) {
             return Ok(0);

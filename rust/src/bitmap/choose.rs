@@ -20,7 +20,7 @@ impl Bitmap<'_> {
         made(|out| self.choose_bits_into(bits, out))
     }
 
-    /// As [`choose_bits`](Self::choose_bits), written into `out`, and answers how many values these are.
+    /// As [`choose_bits`](Self::choose_bits), written into `out`, and returns how many values these are.
     ///
     /// # Errors
     /// [`Error::RowsDiffer`] where the other bitmap has not one value for each value, and the refusals of [`Room`].
@@ -59,7 +59,7 @@ impl Bitmap<'_> {
         unsafe { rows_of(self.count(), |out, count| self.choose_to(rows, out, count)) }
     }
 
-    /// As [`choose`](Self::choose), behind the items of a list.
+    /// As [`choose`](Self::choose), after the items of a list.
     ///
     /// # Errors
     /// As there. Then the list is as it was.
@@ -69,7 +69,7 @@ impl Bitmap<'_> {
         unsafe { append_rows(list, self.count(), |out, count| self.choose_to(rows, out, count)) }
     }
 
-    /// As [`choose`](Self::choose), to the front of `out`, and answers how many rows these are.
+    /// As [`choose`](Self::choose), to the front of `out`, and returns how many rows these are.
     ///
     /// # Errors
     /// [`Error::RowsDiffer`] where there is not one row for each value, and [`Error::RoomTooSmall`] where `out` has

@@ -223,7 +223,7 @@ impl<'a> Bitmap<'a> {
     }
 
     /// Writes the indices of the true values from `from` on to the front of `out`, as many as there are or as it takes,
-    /// and answers how many these are. Behind them `out` may have other numbers than before.
+    /// and returns how many these are. After them `out` may have other numbers than before.
     pub fn next_indices(self, from: usize, out: &mut [usize]) -> usize {
         mask_c::row_mask_next_indices(self.bytes(), self.offset(), self.len(), from, out)
     }
@@ -263,7 +263,7 @@ impl<'a> Bitmap<'a> {
     }
 
     /// Writes the words of 64 values from word `from` on to the front of `out`, as many as there are or as it takes,
-    /// and answers how many these are. Bit `b` of word `w` is value `64 * w + b`. Bits past the last value are clear.
+    /// and returns how many these are. Bit `b` of word `w` is value `64 * w + b`. Bits past the last value are clear.
     ///
     /// ```
     /// let (rows, mut words) = (row_mask::Bitmap::new(&[0b1101_1110], 1, 5)?, [0; 2]);

@@ -12,7 +12,7 @@ use core::slice;
 /// then has just these values and keeps the memory that it has.
 ///
 /// Of bytes just the first `(len + 7) / 8` are written, where `len` is the length of what is written, and the bits
-/// behind the last value are cleared in the last of them.
+/// after the last value are cleared in the last of them.
 ///
 /// Bytes that are too few are refused by [`Error::RoomTooSmall`], and a [`BitmapBuf`] that finds no memory by
 /// [`Error::OutOfMemory`]. Neither is changed then.

@@ -165,7 +165,7 @@ impl BitmapBuf {
         reserve(&mut self.bytes, more)
     }
 
-    /// Adds a value behind the last one.
+    /// Adds a value after the last one.
     #[inline]
     pub fn push(&mut self, value: bool) {
         let bit = self.len % 8;
@@ -176,7 +176,7 @@ impl BitmapBuf {
         self.len += 1;
     }
 
-    /// Adds a value `n` times behind the last one.
+    /// Adds a value `n` times after the last one.
     ///
     /// ```
     /// let mut rows = row_mask::BitmapBuf::all_false(2);
@@ -196,7 +196,7 @@ impl BitmapBuf {
         mask_c::clear_behind(&mut self.bytes, end);
     }
 
-    /// Has `len` values: it forgets those from there on, or adds values that are all `value` behind the last one.
+    /// Has `len` values: it forgets those from there on, or adds values that are all `value` after the last one.
     ///
     /// ```
     /// let mut rows = row_mask::BitmapBuf::all_false(2);
@@ -210,7 +210,7 @@ impl BitmapBuf {
         self.append_n(value, len - self.len);
     }
 
-    /// Adds the values of a bitmap behind the last value.
+    /// Adds the values of a bitmap after the last value.
     #[inline]
     pub fn append<'a>(&mut self, more: impl Into<Bitmap<'a>>) {
         let more = more.into();

@@ -20,7 +20,7 @@ type Block = [MaybeUninit<u16>; BLOCK];
 #[cfg(target_arch = "x86_64")]
 const FEW: usize = 128;
 
-/// Takes values, as many as there are or as the block has places, and answers how many these are.
+/// Takes values, as many as there are or as the block has places, and returns how many these are.
 #[inline]
 fn take(block: &mut [MaybeUninit<u16>], values: impl Iterator<Item = bool>) -> usize {
     let mut count = 0;
@@ -40,7 +40,7 @@ pub(super) fn pack_fn(len: usize, mut value: impl FnMut(usize) -> bool, out: &mu
     }
 }
 
-/// Writes each byte of the first `len` values of an iterator, to just the bytes that they take, and answers how many there
+/// Writes each byte of the first `len` values of an iterator, to just the bytes that they take, and returns how many there
 /// were. Where they are fewer, false ones follow.
 pub(super) fn pack_first(
     len: usize,
@@ -103,7 +103,7 @@ impl FromIterator<bool> for BitmapBuf {
     }
 }
 
-/// Adds values behind the last one.
+/// Adds values after the last one.
 impl Extend<bool> for BitmapBuf {
     fn extend<I: IntoIterator<Item = bool>>(&mut self, values: I) {
         let mut values = values.into_iter();

@@ -360,7 +360,7 @@ impl BitmapBuf {
         self.as_bitmap().choose(rows)
     }
 
-    /// The same, behind the items of a list: [`Bitmap::choose_append`].
+    /// The same, after the items of a list: [`Bitmap::choose_append`].
     ///
     /// # Errors
     /// [`Error::RowsDiffer`], and [`Error::OutOfMemory`].

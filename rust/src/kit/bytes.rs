@@ -82,7 +82,7 @@ impl Bytes {
             None => (&raw const self.held).cast(),
         };
         // SAFETY: while there is a holder, so many bytes lie there, and nobody changes them or lets go of them. Few lie in
-        // the first parts, which are 16 bytes one behind the other.
+        // the first parts, which are 16 bytes one after the other.
         unsafe { slice::from_raw_parts(first, self.len) }
     }
 

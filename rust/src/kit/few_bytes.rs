@@ -41,7 +41,7 @@ impl FewBytes {
         FewBytes::first(self.bytes, count)
     }
 
-    /// All that lie here, also behind the last one.
+    /// All that lie here, also after the last one.
     #[inline]
     pub(crate) fn all(&self) -> [u8; FEW] {
         self.bytes

@@ -1,5 +1,5 @@
 //! The instructions of 64-bit ARM for the bits at set places, by the manual of the processor. Nothing here runs unless
-//! `has_quick_bits` answers yes.
+//! `has_quick_bits` returns true.
 #![allow(clippy::inline_always, reason = "each is a few instructions of its caller")]
 
 use core::arch::asm;

@@ -245,7 +245,7 @@ fn move_by_any<const FEW: usize, T: Copy, M: MoveRows<T>>(
     choose_small_rows::<FEW, M, _, _>(&mut Lent { out, at: 0 }, rows, chunks);
 }
 
-/// Copies runs of items, one behind another. (Never inlined, so that it changes no loop beside it.)
+/// Copies runs of items, one after another. (Never inlined, so that it changes no loop beside it.)
 #[inline(never)]
 pub(crate) fn copy_runs<T: Copy>(of: &[T], runs: impl Iterator<Item = Range<usize>>, to: &mut [T]) {
     let mut at = 0;

@@ -13,7 +13,7 @@ pub(crate) fn extract(source: u64, mask: u64) -> u64 {
     instructions::extract(source, mask)
 }
 
-/// The bits of all pairs of whole words, put one behind another: as the proved loop of this name, but with no branch
+/// The bits of all pairs of whole words, put one after another: as the proved loop of this name, but with no branch
 /// that would be guessed wrong.
 #[inline(always)]
 pub(crate) fn put_pairs(

@@ -1,4 +1,4 @@
-//! What the instructions give, by the manual of the processor. Nothing here runs unless `has_quick_bits` answers yes; for
+//! What the instructions give, by the manual of the processor. Nothing here runs unless `has_quick_bits` returns true; for
 //! `fours_at`, `moves_fours`, for `sixteen_fours_at` and `eights_at`, `compresses`, and for `sixteen_bytes_at` and
 //! `sixteen_twos_at`, `has_vbmi2`.
 #![allow(clippy::inline_always, reason = "each is a few instructions of its caller")]

@@ -8,7 +8,7 @@ use crate::{Error, Offset, Selection, Strings};
 use alloc::vec::Vec;
 
 impl Selection {
-    /// Writes where the chosen values begin and end to the front of `out`, from 0 on, and answers how many bytes they
+    /// Writes where the chosen values begin and end to the front of `out`, from 0 on, and returns how many bytes they
     /// have. Value `i` of the column has the bytes from `offsets[i]` to `offsets[i + 1]`. No bytes are given here, so an
     /// offset past them isn't seen, and the answer may be huge: test the last one before you ask for so much memory. It
     /// reads all offsets, to test their order. [`Strings`] are tested once for any number of calls.
@@ -23,7 +23,7 @@ impl Selection {
         Ok(self.offsets_to(offsets, first_of(out, self.count + 1)?))
     }
 
-    /// Writes the bytes of the chosen values to the front of `out`, and answers how many. It reads all offsets.
+    /// Writes the bytes of the chosen values to the front of `out`, and returns how many. It reads all offsets.
     ///
     /// # Errors
     /// As [`choose_strings`](Selection::choose_strings), but [`Error::RoomTooSmall`] where `out` has not so many bytes.
@@ -56,7 +56,7 @@ impl Selection {
         differ.unless(offsets.len().checked_sub(1) == Some(self.len()))
     }
 
-    // Writes each place, and answers how many bytes the chosen values have. The offsets are those of a column, and
+    // Writes each place, and returns how many bytes the chosen values have. The offsets are those of a column, and
     // there is one place more than rows are chosen.
     fn offsets_to<O: Offset>(&self, offsets: &[O], out: &mut [O]) -> usize {
         let (mut end, mut at) = (take_offsets(&[], offsets, out), 1);
@@ -102,7 +102,7 @@ impl<O: Offset> Strings<'_, O> {
         Ok(selection.offsets_to(self.offsets(), first_of(out, selection.count + 1)?))
     }
 
-    /// Writes the bytes of the chosen values to the front of `out`, and answers how many these are.
+    /// Writes the bytes of the chosen values to the front of `out`, and returns how many these are.
     ///
     /// # Errors
     /// [`Error::RowsDiffer`] as of [`choose`](Self::choose), and [`Error::RoomTooSmall`] where `out` has fewer bytes.

@@ -41,7 +41,7 @@ pub struct LastChosen {
 }
 
 /// Writes the values of `values` at the true values of `masks`, in their order, to the front of `out`, as far as they
-/// fill words of 64. Answers how many there are, and those past the whole words.
+/// fill words of 64. Returns how many there are, and those past the whole words.
 // rust: level
 // rust: copied by instruction
 #[tactic(auto, using(crate::proofs::ChosenBitLemmas::chosen_so_far))]

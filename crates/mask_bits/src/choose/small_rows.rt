@@ -9,7 +9,7 @@ mod one_byte;
 use crate::choose::rows_of_word::{push_rows_of_word, push_rows_one_by_one};
 use crate::output::Room;
 
-/// How the rows at the set ones of sixteen bits come to stand one behind another.
+/// How the rows at the set ones of sixteen bits come to stand one after another.
 pub trait MoveRows<T: Copy> {
     ghost use Rattle.std.specs.Prelude.{◌≡◌, ◌+◌, ◌≤◌, ◌++◌, length, take};
     ghost use Rattle.mask_bits.specs.Positions.{count, chosen};

@@ -17,7 +17,7 @@ pub enum AllOr<T> {
 }
 
 impl<T> AllOr<T> {
-    /// The value of `Some`, or what `all_true` answers for `All` and `all_false` for `None`.
+    /// The value of `Some`, or what `all_true` returns for `All` and `all_false` for `None`.
     pub fn unwrap_or_else<F: FnOnce() -> T, G: FnOnce() -> T>(self, all_true: F, all_false: G) -> T
         requires all_true { self ≡ AllOr.All → F.pre all_true }
         requires all_false { self ≡ AllOr.None → G.pre all_false }

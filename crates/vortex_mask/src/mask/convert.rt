@@ -90,7 +90,7 @@ impl Mask {
         Mask::from_buffer(alloc, buffer)
     }
 
-    /// What a test answers of each row, in their order: value `i` is its answer of row `i`. No rows give `AllFalse(0)`.
+    /// What a test returns for each row, in their order: value `i` is its result for row `i`. No rows give `AllFalse(0)`.
     ///
     /// The filter of a column by a test of its rows, such as `|row| *row > low`.
     // rust: level to v4

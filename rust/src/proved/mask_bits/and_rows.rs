@@ -19,7 +19,7 @@ const MANY_WIDE: usize = 50;
 
 impl BitBuffer {
     /// The values that are true here and of whose rows a test says so too: value `i` is true exactly where it is here and
-    /// the test answers so of row `i`.
+    /// the test returns so for row `i`.
     ///
     /// The next one of several tests of a column's rows. The test is a function of a row: where few of 64 values are true,
     /// it is asked of their rows alone, and else of all 64 together, so of rows too that aren't left.

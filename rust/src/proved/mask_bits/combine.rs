@@ -187,7 +187,7 @@ fn extend_last<C: BitOp>(a: Bits<'_>, b: Bits<'_>, i: usize, out: &mut [u8]) {
     set_word(out, i, C::of(Anywhere::word(a, i), Anywhere::word(b, i)));
 }
 
-/// What [`combine`] does, and the answer is how many values are true. Those of a word are counted as it is written.
+/// What [`combine`] does, and the result is how many values are true. Those of a word are counted as it is written.
 #[inline]
 pub fn combine_counted<C: BitOp>(
     a: &[u8],
@@ -235,7 +235,7 @@ fn combine_counted_any<C: BitOp>(
     ones + count_last::<C>(a, b, whole, rest, out)
 }
 
-// Writes the first words, and answers how many of their values are true.
+// Writes the first words, and returns how many of their values are true.
 #[inline(always)]
 fn count_whole<C: BitOp>(a: Bits<'_>, b: Bits<'_>, words: usize, out: &mut [u8]) -> usize {
     if a.low == 0 && b.low == 0 {
@@ -266,7 +266,7 @@ fn count_shifted_any<C: BitOp>(a: Bits<'_>, b: Bits<'_>, words: usize, out: &mut
     count_words::<C, Unaligned, Unaligned>(a, b, inner, words, first, out)
 }
 
-// Writes words `from` to `to`, where those before are written, and answers how many values of all are true, where `ones`
+// Writes words `from` to `to`, where those before are written, and returns how many values of all are true, where `ones`
 // of those before are.
 #[inline(always)]
 fn count_words<C: BitOp, A: ReadWord, B: ReadWord>(
@@ -286,7 +286,7 @@ fn count_words<C: BitOp, A: ReadWord, B: ReadWord>(
     count
 }
 
-// Writes word `i`, of which fewer than 64 bits are values, where those before are written, and answers how many of these
+// Writes word `i`, of which fewer than 64 bits are values, where those before are written, and returns how many of these
 // values are true.
 #[inline(always)]
 fn count_last<C: BitOp>(a: Bits<'_>, b: Bits<'_>, i: usize, rest: usize, out: &mut [u8]) -> usize {

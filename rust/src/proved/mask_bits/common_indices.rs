@@ -7,7 +7,7 @@ use crate::kit::prelude::*;
 use crate::proved::mask_bits::row_index::RowIndex;
 use crate::proved::mask_bits::unchecked::{item, put};
 
-/// Writes the indices that two ascending lists have in common to the front of `out`, and answers how many these are.
+/// Writes the indices that two ascending lists have in common to the front of `out`, and returns how many these are.
 ///
 /// Few indices are looked up in a list that is much longer, which isn't read whole, and other lists are merged. Behind what
 /// is found `out` may have other indices than before, as far as the shorter list would reach.
@@ -24,7 +24,7 @@ fn put_common_of<N: RowIndex>(list: &[N], other: &[N], out: &mut [N]) -> usize {
     move_found(room, other)
 }
 
-/// Moves the indices of an ascending list that another one has too to its front, and answers how many these are.
+/// Moves the indices of an ascending list that another one has too to its front, and returns how many these are.
 #[inline]
 pub fn keep_common<N: RowIndex>(list: &mut [N], other: &[N]) -> usize {
     move_found(list, other)
@@ -36,7 +36,7 @@ fn move_found<N: RowIndex>(list: &mut [N], other: &[N]) -> usize {
     if list.len() <= other.len() / 16 { look_up(list, other) } else { merge(list, other) }
 }
 
-/// Writes those of a list of indices at which a bitmap is true to the front of `out`, in their order, and answers how many
+/// Writes those of a list of indices at which a bitmap is true to the front of `out`, in their order, and returns how many
 /// these are. Indices may come in any order and more than once. Behind what is found `out` may have other indices than
 /// before, as far as the list would reach.
 #[inline]
@@ -70,7 +70,7 @@ fn number_at<N: RowIndex>(items: &[N], i: usize) -> usize {
     item(items, i).get()
 }
 
-// Copies the index at one place to another, and answers its number.
+// Copies the index at one place to another, and returns its number.
 #[inline(always)]
 fn copy_to<N: RowIndex>(items: &mut [N], from: usize, to: usize) -> usize {
     let index = item(items, from);

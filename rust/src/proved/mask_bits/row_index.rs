@@ -10,7 +10,7 @@ use crate::proved::mask_bits::output::Room;
 pub trait RowIndex: Copy {
     fn get(self) -> usize;
 
-    /// All numbers are taken, since loops that put several indices at a time put some behind the last one, and drop them.
+    /// All numbers are taken, since loops that put several indices at a time put some after the last one, and drop them.
     fn of(n: usize) -> Self;
 
     /// Puts those of eight places, of which the first one has the index `base`.

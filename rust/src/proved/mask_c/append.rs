@@ -27,7 +27,7 @@ pub fn row_mask_append(
 }
 
 // Fills up the byte that the last value is in: with the first values of `more`, as many as there are or
-// as it takes. Answers how many these are.
+// as it takes. Returns how many these are.
 #[inline]
 fn fill_last(
     bytes: &mut [u8],

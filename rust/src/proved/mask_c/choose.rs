@@ -27,7 +27,7 @@ pub struct RowMask16 {
     pub second: u64,
 }
 
-/// Writes the rows at the true values, in their order, to the front of `out`, and answers how many
+/// Writes the rows at the true values, in their order, to the front of `out`, and returns how many
 /// they are. A row has 1 byte. Behind these rows, `out` may have others than before.
 ///
 /// Asks that `rows_count == len`, and that `out_count` is at least the count of the true values.
@@ -46,7 +46,7 @@ pub fn row_mask_choose_1(
     }
 }
 
-/// Writes the rows at the true values, in their order, to the front of `out`, and answers how many
+/// Writes the rows at the true values, in their order, to the front of `out`, and returns how many
 /// they are. A row has 2 bytes. Behind these rows, `out` may have others than before.
 ///
 /// Asks that `rows_count == len`, and that `out_count` is at least the count of the true values.
@@ -61,7 +61,7 @@ pub fn row_mask_choose_2(
     choose(bytes, offset, len, rows, out)
 }
 
-/// Writes the rows at the true values, in their order, to the front of `out`, and answers how many
+/// Writes the rows at the true values, in their order, to the front of `out`, and returns how many
 /// they are. A row has 4 bytes. Behind these rows, `out` may have others than before.
 ///
 /// Asks that `rows_count == len`, and that `out_count` is at least the count of the true values.
@@ -76,7 +76,7 @@ pub fn row_mask_choose_4(
     choose(bytes, offset, len, rows, out)
 }
 
-/// Writes the rows at the true values, in their order, to the front of `out`, and answers how many
+/// Writes the rows at the true values, in their order, to the front of `out`, and returns how many
 /// they are. A row has 8 bytes. Behind these rows, `out` may have others than before.
 ///
 /// Asks that `rows_count == len`, and that `out_count` is at least the count of the true values.
@@ -91,7 +91,7 @@ pub fn row_mask_choose_8(
     choose(bytes, offset, len, rows, out)
 }
 
-/// Writes the rows at the true values, in their order, to the front of `out`, and answers how many
+/// Writes the rows at the true values, in their order, to the front of `out`, and returns how many
 /// they are. A row has 16 bytes. Behind these rows, `out` may have others than before.
 ///
 /// Asks that `rows_count == len`, and that `out_count` is at least the count of the true values.

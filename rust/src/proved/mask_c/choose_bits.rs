@@ -6,7 +6,7 @@ use crate::proved::mask_bits::BitChunks;
 use crate::proved::mask_bits::choose::bits::put_chosen;
 use crate::proved::mask_c::last::put_remainder;
 
-/// Writes the values of `values` at the true values of the bitmap, in their order, and answers how many
+/// Writes the values of `values` at the true values of the bitmap, in their order, and returns how many
 /// they are. So the validity of a column is filtered with its rows.
 ///
 /// Asks that `out_size >= row_mask_room(count)`, where `count` is the count of the bitmap's true values.

@@ -38,7 +38,7 @@ impl Offset for u64 {
 }
 
 /// Writes the offsets of the strings at the true values to the front of `out`: 0, and then where each of these ends if
-/// they stand one behind the other. Answers how many bytes they have, which is the room for `row_mask_choose_bytes_4`.
+/// they stand one after the other. Returns how many bytes they have, which is the room for `row_mask_choose_bytes_4`.
 /// String `i` has the bytes from `offsets[i]` to `offsets[i + 1]`, and an offset has 4 bytes.
 ///
 /// Asks that `offsets_count == len + 1`, that no offset is below the one before it, and that `out_count` is
@@ -55,7 +55,7 @@ pub fn row_mask_choose_offsets_4(
 }
 
 /// Writes the offsets of the strings at the true values to the front of `out`: 0, and then where each of these ends if
-/// they stand one behind the other. Answers how many bytes they have, which is the room for `row_mask_choose_bytes_8`.
+/// they stand one after the other. Returns how many bytes they have, which is the room for `row_mask_choose_bytes_8`.
 /// String `i` has the bytes from `offsets[i]` to `offsets[i + 1]`, and an offset has 8 bytes.
 ///
 /// Asks that `offsets_count == len + 1`, that no offset is below the one before it, and that `out_count` is
@@ -72,7 +72,7 @@ pub fn row_mask_choose_offsets_8(
 }
 
 /// Writes the offsets of the strings at `indices` to the front of `out`: 0, and then where each of these ends
-/// if they stand one behind the other, in the order of the indices. Answers how many bytes they have, which is
+/// if they stand one after the other, in the order of the indices. Returns how many bytes they have, which is
 /// the room for `row_mask_take_bytes_4`. Indices may come in any order and more than once. String `i` has
 /// the bytes from `offsets[i]` to `offsets[i + 1]`, and an offset has 4 bytes.
 ///
@@ -84,7 +84,7 @@ pub fn row_mask_take_offsets_4(indices: &[usize], offsets: &[u32], out: &mut [u3
 }
 
 /// Writes the offsets of the strings at `indices` to the front of `out`: 0, and then where each of these ends
-/// if they stand one behind the other, in the order of the indices. Answers how many bytes they have, which is
+/// if they stand one after the other, in the order of the indices. Returns how many bytes they have, which is
 /// the room for `row_mask_take_bytes_8`. Indices may come in any order and more than once. String `i` has
 /// the bytes from `offsets[i]` to `offsets[i + 1]`, and an offset has 8 bytes.
 ///
@@ -120,7 +120,7 @@ pub(crate) fn string_at<O: Offset>(offsets: &[O], i: usize) -> (usize, usize) {
 }
 
 // Writes behind the first `at` offsets where each of the strings at some indices ends, if the first of
-// them begins at byte `from`, and answers where the last one ends.
+// them begins at byte `from`, and returns where the last one ends.
 #[inline]
 pub(crate) fn put_ends<O: Offset>(
     indices: &[usize],

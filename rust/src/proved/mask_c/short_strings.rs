@@ -55,7 +55,7 @@ pub(crate) fn before_last<const WORDS: usize, O: Offset>(
 }
 
 /// Writes the first of the strings at some indices behind the first `at` bytes, `WORDS` words of eight bytes for each,
-/// and other bytes than before where the last of them come. Answers how many bytes there are then.
+/// and other bytes than before where the last of them come. Returns how many bytes there are then.
 #[inline]
 pub(crate) fn put_wide<const WORDS: usize, O: Offset>(
     first: usize,
@@ -96,7 +96,7 @@ fn put_words<const WORDS: usize>(bytes: &[u8], begin: usize, out: &mut [u8], at:
     }
 }
 
-/// Writes a part of some bytes behind the first `at`, and answers how many there are then.
+/// Writes a part of some bytes behind the first `at`, and returns how many there are then.
 #[inline]
 pub(crate) fn put_part(bytes: &[u8], begin: usize, end: usize, out: &mut [u8], at: usize) -> usize {
     let written = at + (end - begin);

@@ -5,7 +5,7 @@ use crate::kit::prelude::*;
 use crate::proved::mask_bits::BitChunks;
 
 /// Writes words of 64 values, from word `from` on, to the front of `out`, as many as there are or as `out` takes, the
-/// last perhaps in part, and answers how many these are: none from past the end. Bit `j` of word `i` is value
+/// last perhaps in part, and returns how many these are: none from past the end. Bit `j` of word `i` is value
 /// `64 * i + j`, and 0 past the last value. So a walk over all words goes on from one past the last, until fewer come
 /// than `out` takes.
 #[inline]

@@ -89,7 +89,7 @@ impl RankWords for RankBlock<'_> {
 }
 
 // Puts the ranks from `base` on as set bits, that of `base` first, whose first one is number `next`.
-// Answers the number of the first rank past the block.
+// Returns the number of the first rank past the block.
 #[tactic(auto, using(crate::proofs::Lists::PlaceListLemmas::rises_to))]
 #[inline(always)]
 fn put_ranks(ranks: &[usize], next: usize, base: usize, block: &mut [u8]) -> usize

@@ -70,7 +70,7 @@ pub(crate) fn intersect_bit_buffer_by_rank_indices_with<D: DepositBits, C: Count
 }
 
 /// Writes the values of `chunks` narrowed to the true ones whose numbers are `ranks` to `out`, which
-/// has just the bytes of the started words, and answers the steps.
+/// has just the bytes of the started words, and returns the steps.
 pub fn narrow_at_ranks<D: DepositBits>(
     chunks: &BitChunks<'_>,
     ranks: &[usize],
@@ -88,7 +88,7 @@ pub fn narrow_at_ranks<D: DepositBits>(
     narrow_at_ranks_with::<D, Steps>(chunks, ranks, out)
 }
 
-// Writes what `narrow_at_ranks` does, and answers the steps where `C` counts them.
+// Writes what `narrow_at_ranks` does, and returns the steps where `C` counts them.
 // rust: level
 fn narrow_at_ranks_with<D: DepositBits, C: CountSteps>(
     chunks: &BitChunks<'_>,

@@ -123,7 +123,7 @@ impl<C: CountSteps> Narrowed<C> {
         }
     }
 
-    // Narrows the words that are left, where `ranks` reaches from anywhere, and answers all steps.
+    // Narrows the words that are left, where `ranks` reaches from anywhere, and returns all steps.
     #[inline(always)]
     pub(super) fn narrow_rest<D: DepositBits, R: RankWords>(
         self,

@@ -53,7 +53,7 @@ pub struct LastChosen {
 }
 
 /// Writes the values of `values` at the true values of `masks`, in their order, to the front of `out`, as far as they
-/// fill words of 64. Answers how many there are, and those past the whole words.
+/// fill words of 64. Returns how many there are, and those past the whole words.
 #[inline]
 pub fn put_chosen(masks: &BitChunks<'_>, values: &BitChunks<'_>, out: &mut [u8]) -> LastChosen {
     crate::native::by_level!(

@@ -7,7 +7,7 @@ mod one_byte;
 use crate::proved::mask_bits::choose::rows_of_word::{push_rows_of_word, push_rows_one_by_one};
 use crate::proved::mask_bits::output::Room;
 
-/// How the rows at the set ones of sixteen bits come to stand one behind another.
+/// How the rows at the set ones of sixteen bits come to stand one after another.
 pub trait MoveRows<T: Copy> {
     /// Puts these rows into room for sixteen.
     fn push_sixteen<R: Room<T>>(out: &mut R, rows: &[T], bits: u16);

@@ -16,7 +16,7 @@ pub enum AllOr<T> {
 }
 
 impl<T> AllOr<T> {
-    /// The value of `Some`, or what `all_true` answers for `All` and `all_false` for `None`.
+    /// The value of `Some`, or what `all_true` returns for `All` and `all_false` for `None`.
     ///
     /// # The caller owes ([terms](crate::definitions))
     ///

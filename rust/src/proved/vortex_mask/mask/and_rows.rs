@@ -6,7 +6,7 @@ use crate::proved::vortex_mask::mask::{Mask, MaskError};
 
 impl Mask {
     /// The values that are true here and of whose rows a test says so too: value `i` is true exactly where it is here and
-    /// the test answers so of row `i`.
+    /// the test returns so for row `i`.
     ///
     /// The next one of several tests of a column's rows. The test is a function of a row: where few of 64 values are true,
     /// it is asked of their rows alone, and else of all 64 together, so of rows too that aren't left.

@@ -52,7 +52,7 @@ impl RankWords for RankBlock<'_> {
 }
 
 // Puts the ranks from `base` on as set bits, that of `base` first, whose first one is number `next`.
-// Answers the number of the first rank past the block.
+// Returns the number of the first rank past the block.
 #[inline(always)]
 fn put_ranks(ranks: &[usize], next: usize, base: usize, block: &mut [u8]) -> usize {
     // one by one there is no branch to guess wrong, and by words less to do for each of many
