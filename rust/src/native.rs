@@ -24,7 +24,8 @@ mod tests;
 use arm as instructions;
 
 pub(crate) use choose::{
-    MORE, OF_A_RUN, choose_rows_by_size, choose_several, copy_runs, put_chosen_rows,
+    MORE, OF_A_RUN, choose_rows_by_size, choose_several, choose_to_front, copy_runs,
+    put_chosen_rows,
 };
 #[cfg(any(target_arch = "x86_64", target_arch = "aarch64"))]
 pub(crate) use deposits::ByInstruction;

@@ -47,7 +47,7 @@ pub extern "C" fn row_mask_choose_1(
     if moves_bytes() && have_many(bytes, offset, len) {
         choose_small::<FEW_BYTES, Moved, _>(bytes, offset, len, rows, out)
     } else {
-        choose(bytes, offset, len, rows, out)
+        choose_to_front(bytes, offset, len, rows, out)
     }
 }
 
@@ -66,7 +66,7 @@ pub extern "C" fn row_mask_choose_2(
     requires { CanChoose bytes.now offset len rows.now out.old }
     ensures { AreChosen rows.now (bitmap bytes.now offset len) out.new result }
 {
-    choose(bytes, offset, len, rows, out)
+    choose_to_front(bytes, offset, len, rows, out)
 }
 
 /// Writes the rows at the true values, in their order, to the front of `out`, and returns how many
@@ -84,7 +84,7 @@ pub extern "C" fn row_mask_choose_4(
     requires { CanChoose bytes.now offset len rows.now out.old }
     ensures { AreChosen rows.now (bitmap bytes.now offset len) out.new result }
 {
-    choose(bytes, offset, len, rows, out)
+    choose_to_front(bytes, offset, len, rows, out)
 }
 
 /// Writes the rows at the true values, in their order, to the front of `out`, and returns how many
@@ -102,7 +102,7 @@ pub extern "C" fn row_mask_choose_8(
     requires { CanChoose bytes.now offset len rows.now out.old }
     ensures { AreChosen rows.now (bitmap bytes.now offset len) out.new result }
 {
-    choose(bytes, offset, len, rows, out)
+    choose_to_front(bytes, offset, len, rows, out)
 }
 
 /// Writes the rows at the true values, in their order, to the front of `out`, and returns how many
@@ -120,12 +120,20 @@ pub extern "C" fn row_mask_choose_16(
     requires { CanChoose bytes.now offset len rows.now out.old }
     ensures { AreChosen rows.now (bitmap bytes.now offset len) out.new result }
 {
-    choose(bytes, offset, len, rows, out)
+    choose_to_front(bytes, offset, len, rows, out)
 }
 
 // The rows at the true values.
+// rust: replaced by native::choose_to_front
+// rust: visible
 #[inline]
-fn choose<T: Copy>(bytes: &[u8], offset: usize, len: usize, rows: &[T], out: &mut [T]) -> usize
+fn choose_to_front<T: Copy>(
+    bytes: &[u8],
+    offset: usize,
+    len: usize,
+    rows: &[T],
+    out: &mut [T],
+) -> usize
     requires { CanChoose bytes.now offset len rows.now out.old }
     ensures { AreChosen rows.now (bitmap bytes.now offset len) out.new result }
 {
@@ -157,6 +165,7 @@ fn choose_small<const FEW: usize, M: MoveRows<T>, T: Copy>(
 
 // Whether words have `MANY` true values on the average, by the indices within a word that are true in one of four words,
 // or by the first word of fewer.
+// rust: visible
 #[inline]
 fn have_many(bytes: &[u8], offset: usize, len: usize) -> bool
     requires { IsWithinBytes bytes.now offset len }

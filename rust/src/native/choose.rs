@@ -7,8 +7,10 @@ use super::processor::{Compressed, CompressedNarrow, compresses, moves_fours};
 use super::processor::{Moved, moves_bytes};
 use crate::proved::mask_bits::choose::rows::{choose_rows, choose_small_rows};
 use crate::proved::mask_bits::choose::small_rows::MoveRows;
+use crate::proved::mask_bits::counts::count_bits;
 use crate::proved::mask_bits::output::Lent;
 use crate::proved::mask_bits::{BitBuffer, BitChunks, SetSlices};
+use crate::proved::mask_c;
 use crate::proved::vortex_mask::mask::choose;
 use alloc::vec::Vec;
 use core::any::TypeId;
@@ -298,6 +300,45 @@ pub(crate) fn put_chosen_rows<T: Copy>(
     unsafe {
         choose_rows_by_size(rows, buffer.chunks(), out, count);
         list.set_len(count);
+    }
+}
+
+/// Writes the rows at the true values to the front of `out`, and returns how many they are. It stands in the place of the
+/// proved function of this name in a C library that cargo makes, to which it leaves what isn't moved several at once: rows of
+/// one byte, those that aren't known to be plain bytes, few rows, and lists of which few values are true.
+pub(crate) fn choose_to_front<T: Copy>(
+    bytes: &[u8],
+    offset: usize,
+    len: usize,
+    rows: &[T],
+    out: &mut [T],
+) -> usize {
+    let is_moved = is_number::<T>() && moves_rows_of(size_of::<T>());
+    if is_moved && len > ANY_LEVEL && mask_c::have_many(bytes, offset, len) {
+        let count = count_bits(bytes, offset, len);
+        let (chunks, places) = (BitChunks::new_proved(bytes, offset, len), out.len());
+        // SAFETY: a number is plain bytes. There is a row for each value, and room for those that are true, as the proved
+        // function is called. Nothing but rows is written.
+        let is_done = count >= len / ONE_TRUE_IN
+            && unsafe {
+                let out = slice::from_raw_parts_mut(out.as_mut_ptr().cast(), places);
+                choose_several(rows, &chunks, out, count)
+            };
+        if is_done {
+            return count;
+        }
+    }
+    mask_c::choose_to_front(bytes, offset, len, rows, out)
+}
+
+/// Whether the processor moves several rows of more than one byte at once.
+fn moves_rows_of(size: usize) -> bool {
+    match size {
+        #[cfg(target_arch = "x86_64")]
+        2 | 4 => moves_fours() || compresses(),
+        #[cfg(target_arch = "x86_64")]
+        8 => compresses(),
+        _ => false,
     }
 }
 

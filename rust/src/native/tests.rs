@@ -5,6 +5,7 @@ use super::features::found::{MOST, QUICK_BITS};
 #[cfg(target_arch = "x86_64")]
 use super::features::found::{V3, V4, VBMI2, VPOPCNTDQ};
 use super::instructions::{deposit, extract};
+use crate::proved::mask_c;
 use crate::{BitBuffer, Bitmap, BitmapBuf, Mask, Row, Selection};
 
 #[cfg(target_arch = "x86_64")]
@@ -132,6 +133,33 @@ fn choosing_small_rows() {
         chosen(a, |i| i.wrapping_mul(0x9E37_79B9_7F4A_7C15));
         chosen(a, |i| [f32::from(i.to_le_bytes()[0]), f32::from(i.to_le_bytes()[1])]);
         chosen(a, |i| [i.to_le_bytes(), [3; 8]]);
+    });
+}
+
+/// The calls of a C library choose these rows too, into just their places and into more.
+#[test]
+fn choosing_for_c() {
+    each_list(|a, _| {
+        macro_rules! chosen {
+            ($($choose:ident($row:expr);)*) => {$(
+                let rows: Vec<_> = (0..a.len()).map($row).collect();
+                let wanted: Vec<_> = a.indices().map(|i| rows[i]).collect();
+                for more in [0, 70] {
+                    same(|| {
+                        let mut out = vec![$row(5); wanted.len() + more];
+                        let count = mask_c::$choose(a.bytes(), a.offset(), a.len(), &rows, &mut out);
+                        assert_eq!(out[..count], wanted);
+                        count
+                    });
+                }
+            )*};
+        }
+        chosen! {
+            row_mask_choose_1(|i: usize| i.to_le_bytes()[0]);
+            row_mask_choose_2(|i: usize| u16::try_from(i % 65_521).unwrap());
+            row_mask_choose_4(|i: usize| u32::try_from(i).unwrap().wrapping_mul(0x9E37_79B9));
+            row_mask_choose_8(|i: usize| u64::try_from(i).unwrap().wrapping_mul(0x9E37_79B9_7F4A_7C15));
+        }
     });
 }
 

@@ -42,7 +42,7 @@ pub fn row_mask_choose_1(
     if moves_bytes() && have_many(bytes, offset, len) {
         choose_small::<FEW_BYTES, Moved, _>(bytes, offset, len, rows, out)
     } else {
-        choose(bytes, offset, len, rows, out)
+        crate::native::choose_to_front(bytes, offset, len, rows, out)
     }
 }
 
@@ -58,7 +58,7 @@ pub fn row_mask_choose_2(
     rows: &[u16],
     out: &mut [u16],
 ) -> usize {
-    choose(bytes, offset, len, rows, out)
+    crate::native::choose_to_front(bytes, offset, len, rows, out)
 }
 
 /// Writes the rows at the true values, in their order, to the front of `out`, and returns how many
@@ -73,7 +73,7 @@ pub fn row_mask_choose_4(
     rows: &[u32],
     out: &mut [u32],
 ) -> usize {
-    choose(bytes, offset, len, rows, out)
+    crate::native::choose_to_front(bytes, offset, len, rows, out)
 }
 
 /// Writes the rows at the true values, in their order, to the front of `out`, and returns how many
@@ -88,7 +88,7 @@ pub fn row_mask_choose_8(
     rows: &[u64],
     out: &mut [u64],
 ) -> usize {
-    choose(bytes, offset, len, rows, out)
+    crate::native::choose_to_front(bytes, offset, len, rows, out)
 }
 
 /// Writes the rows at the true values, in their order, to the front of `out`, and returns how many
@@ -103,12 +103,18 @@ pub fn row_mask_choose_16(
     rows: &[RowMask16],
     out: &mut [RowMask16],
 ) -> usize {
-    choose(bytes, offset, len, rows, out)
+    crate::native::choose_to_front(bytes, offset, len, rows, out)
 }
 
 // The rows at the true values.
 #[inline]
-fn choose<T: Copy>(bytes: &[u8], offset: usize, len: usize, rows: &[T], out: &mut [T]) -> usize {
+pub(crate) fn choose_to_front<T: Copy>(
+    bytes: &[u8],
+    offset: usize,
+    len: usize,
+    rows: &[T],
+    out: &mut [T],
+) -> usize {
     let chunks = BitChunks::new_proved(bytes, offset, len);
     let mut room = Lent { out, at: 0 };
     choose_rows::<0, _, _>(&mut room, rows, &chunks);
@@ -174,7 +180,7 @@ fn choose_small_any<const FEW: usize, M: MoveRows<T>, T: Copy>(
 // Whether words have `MANY` true values on the average, by the indices within a word that are true in one of four words,
 // or by the first word of fewer.
 #[inline]
-fn have_many(bytes: &[u8], offset: usize, len: usize) -> bool {
+pub(crate) fn have_many(bytes: &[u8], offset: usize, len: usize) -> bool {
     let chunks = BitChunks::new_proved(bytes, offset, len);
     let whole = chunks.len();
     if whole < 4 {

@@ -1,5 +1,5 @@
 use Rattle.mask_c.proofs.Common.{ap, ◌∙◌, length, arith, length-take, chosen, length-chosen}
-use Rattle.mask_c.proofs.choose.choose.Goals as goal
+use Rattle.mask_c.proofs.choose.choose_to_front.Goals as goal
 
 pub returns : goal.returns
 returns g c =
