@@ -53,7 +53,8 @@ def levelled(function, of, body, marked):
 """
     which = marked.level
     if marked.most:
-        which, first = f"{which}_to_{marked.most}", function.call(most, place, []) + ", "
+        gains = f"{marked.where or 'true'}, " if marked.most == "v4" else ""
+        which, first = f"{which}_to_{marked.most}", gains + function.call(most, place, []) + ", "
     if marked.much:
         which, first = f"{which}_if", f"{marked.much}, {first if marked.most else ''}"
     return f"{{ crate::native::by_{which}!({first}{calls[0]}, {calls[1]}) }}", more

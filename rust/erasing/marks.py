@@ -6,6 +6,7 @@
 | `// rust: wide level` | the same of a loop over vectors alone: a program for x86-64-v2 takes its own |
 | `// rust: shifted level` | the same of what shifts words within such a loop: just such a program takes the copy |
 | `.. to v4` | another copy for x86-64-v4, which goes first |
+| `.. to v4 where CONDITION` | the same, where the clock is lowered for AVX-512 only if it gains much: on that condition |
 | `.. to vpopcntdq` | another for x86-64-v4 with the instruction that counts the set bits of words, which goes first |
 | `.. if CONDITION` | the copy is called only where there is so much to do that it pays to ask |
 | `.. alone` | what it calls isn't inlined always |
@@ -34,7 +35,7 @@ from erasing.tokens import Fault
 
 CRATES = Path(__file__).resolve().parents[2] / "crates"
 LINE = re.compile(r"^[ \t]*// rust:(.*)\n", re.M)
-LEVEL = re.compile(r"(?P<kind>wide |shifted )?level(?: to (?P<most>v4|vpopcntdq))?(?: if (?P<much>.+?))?(?P<alone> alone)?")
+LEVEL = re.compile(r"(?P<kind>wide |shifted )?level(?: to (?P<most>v4|vpopcntdq)(?: where (?P<where>.+?))?)?(?: if (?P<much>.+?))?(?P<alone> alone)?")
 TOLD = re.compile(r"(?:(\w+) )?(needs|says) (\S.*)")
 NAMED = re.compile(r"named (\w+)")
 INSTEAD = re.compile(r"(replaced by|by instruction) ((?:\w+::)*\w+)")
@@ -48,8 +49,8 @@ class Marks:
     >>> marks = Marks(["wide level if len > 128", "visible"])
     >>> marks.level, marks.much, marks.alone, marks.has("visible"), marks.has("inline")
     ('wide_level', 'len > 128', False, True, False)
-    >>> marks.most, Marks(["level to v4 if len > 128"]).most
-    (None, 'v4')
+    >>> (it := Marks(["level to v4 where n >= 4 if len > 128"])).most, it.where, it.much
+    ('v4', 'n >= 4', 'len > 128')
     >>> Marks(["within needs `a < b`", "says No {} of {}"]).told
     {'within': ('needs', '`a < b`'), None: ('says', 'No {} of {}')}
     >>> Marks(["named try_clone"]).named
@@ -63,7 +64,7 @@ class Marks:
 
     def __init__(self, words=()):
         self.text = ", ".join(words)
-        self.level = self.most = self.much = self.named = None
+        self.level = self.most = self.where = self.much = self.named = None
         self.alone = False
         self.others = set()
         # what is said where a condition is broken, by the condition's name
@@ -76,7 +77,8 @@ class Marks:
                 self.told[told[1]] = (told[2], told[3])
             elif match and self.level is None:
                 self.level = f"{(match['kind'] or '').strip()}_level".lstrip("_")
-                self.most, self.much, self.alone = match["most"], match["much"], bool(match["alone"])
+                self.most, self.where = match["most"], match["where"]
+                self.much, self.alone = match["much"], bool(match["alone"])
             elif (match := NAMED.fullmatch(it)) and self.named is None:
                 self.named = match[1]
             elif (match := INSTEAD.fullmatch(it)) and match[1] not in self.instead:

@@ -96,7 +96,8 @@ class Form:
         calls = {it: self.function.call(f"{self.name}_{it}", place) for it in ("v3", marks.most, "any", "by_instruction")}
         which, first = f"by_{marks.level}", []
         if marks.most:
-            which, first = f"{which}_to_{marks.most}", [*calls[marks.most], ","]
+            gains = [*words_of(marks.where or "true"), ","] if marks.most == "v4" else []
+            which, first = f"{which}_to_{marks.most}", [*gains, *calls[marks.most], ","]
         if marks.much:
             which, first = f"{which}_if", [*words_of(marks.much), ",", *(first if marks.most else [])]
         elif marks.has("copied by instruction"):

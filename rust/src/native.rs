@@ -34,7 +34,7 @@ pub(crate) use deposits::{by_loop, quickest, quickest_path};
 pub(crate) use extracts::{extract, put_pairs};
 pub(crate) use features::has_quick_bits;
 #[cfg(target_arch = "x86_64")]
-pub(crate) use features::{has_v3, has_v4, has_vbmi2, has_vpopcntdq};
+pub(crate) use features::{has_v3, has_v4, has_v4_for, has_vbmi2, has_vpopcntdq};
 pub(crate) use levels::{
     by_level, by_level_if, by_level_to_v4, by_level_to_v4_if, by_level_to_vpopcntdq,
     by_shifted_level, by_wide_level_if, levelled,

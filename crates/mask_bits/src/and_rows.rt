@@ -66,7 +66,7 @@ fn copied(alloc: Global, buffer: &BitBuffer) -> Result<ByteList, AllocError>
 
 // Leaves those of the first values of `bytes` true of whose rows a test says so, in place. The bits of `bytes` past them
 // have no meaning.
-// rust: level to v4 if rows.len() > 128
+// rust: level to v4 where size_of::<T>() >= 4 if rows.len() > 128
 pub(crate) fn and_rows_in_place<T, F: Fn(&T) -> bool>(bytes: &mut [u8], rows: &[T], test: &F)
     requires covered { length rows.now ≤ 8 * length bytes.old }
     requires callable { F.IsAlwaysCallable test.now }

@@ -24,7 +24,7 @@ const WIDE: usize = 64 * 8;
 impl BitBuffer {
     /// What a test returns for each row, in their order: value `i` is its result for row `i`. The
     /// answers are packed as they come, 64 to a word, and are listed nowhere else.
-    // rust: level to v4
+    // rust: level to v4 where size_of::<T>() >= 4
     // rust: named try_from_rows
     pub fn from_rows<T, F: Fn(&T) -> bool>(
         alloc: Global,

@@ -74,7 +74,7 @@ fn pack_block(block: &mut Block, count: usize, out: &mut [u8]) {
 }
 
 levelled! {
-    to v4 where out.len() > FEW / 8;
+    to v4 where false, if out.len() > FEW / 8;
     fn pack_words(values: &[u16], out: &mut [u8]) {
         for (out, values) in out.chunks_mut(8).zip(values.as_chunks::<64>().0) {
             put_lowest(word_of_whole(values, &mut |it| *it != 0), out);
@@ -84,7 +84,7 @@ levelled! {
 
 // Writes each byte of what is asked of rows, to just the bytes that they take.
 levelled! {
-    to v4 where rows.len() > FEW;
+    to v4 where size_of::<T>() >= 4, if rows.len() > FEW;
     pub(super) fn pack_rows<T>(rows: &[T], is_true: impl FnMut(&T) -> bool, out: &mut [u8]) {
         let (is_true, (whole, rest)) = (&mut { is_true }, rows.as_chunks::<64>());
         let (words, last) = out.split_at_mut(8 * whole.len());

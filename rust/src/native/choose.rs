@@ -200,6 +200,7 @@ fn move_several<const FEW: usize, T: Copy, M: MoveRows<T>>(
     out: &mut [T],
 ) {
     super::by_level_to_v4!(
+        true,
         move_by_v4::<FEW, T, M>(rows, chunks, out),
         move_by_v3::<FEW, T, M>(rows, chunks, out),
         move_by_any::<FEW, T, M>(rows, chunks, out)

@@ -15,6 +15,13 @@ pub(crate) fn has_v4() -> bool {
     cfg!(not(target_feature = "avx512vl")) && found::all() & found::V4 != 0
 }
 
+/// Whether it has, for a loop that gains much by it, or for one that gains less if AVX-512 doesn't lower the clock.
+#[cfg(target_arch = "x86_64")]
+#[inline(always)]
+pub(crate) fn has_v4_for(much: bool) -> bool {
+    has_v4() && (much || found::all() & found::KEEPS_CLOCK != 0)
+}
+
 /// Whether the processor has instructions of AVX-512 that put bytes and numbers of two bytes together (VBMI2), besides: that
 /// is asked in a program that is compiled for them too, since what is compiled for them asks for all of x86-64-v4.
 #[cfg(target_arch = "x86_64")]
@@ -60,6 +67,8 @@ pub(super) mod found {
     pub(in super::super) const VBMI2: u8 = 16;
     #[cfg(target_arch = "x86_64")]
     pub(in super::super) const VPOPCNTDQ: u8 = 32;
+    #[cfg(target_arch = "x86_64")]
+    pub(in super::super) const KEEPS_CLOCK: u8 = 64;
 
     static FOUND: AtomicU8 = AtomicU8::new(0);
 
@@ -72,7 +81,10 @@ pub(super) mod found {
     /// All that was found, by the bits above.
     #[inline(always)]
     pub(super) fn all() -> u8 {
-        #[cfg(test)]
+        // (a test has the loops of processors with another clock, too)
+        #[cfg(all(test, target_arch = "x86_64"))]
+        return MOST.get() & (known() | KEEPS_CLOCK);
+        #[cfg(all(test, not(target_arch = "x86_64")))]
         return MOST.get() & known();
         #[cfg(not(test))]
         known()
@@ -136,7 +148,18 @@ pub(super) mod found {
     fn more_of_avx512() -> u8 {
         let vbmi2 = if has!("avx512vbmi2") { VBMI2 } else { 0 };
         let vpopcntdq = if has!("avx512vpopcntdq") { VPOPCNTDQ } else { 0 };
-        vbmi2 | vpopcntdq
+        vbmi2 | vpopcntdq | if lowers_clock() { 0 } else { KEEPS_CLOCK }
+    }
+
+    // Intel's Skylake, Cascade Lake and Cooper Lake for servers (one model) run by up to a sixth slower for two thirds of a
+    // millisecond after each use of registers of 64 bytes.
+    #[cfg(target_arch = "x86_64")]
+    fn lowers_clock() -> bool {
+        // SAFETY: each processor of x86-64 answers.
+        #[allow(unused_unsafe, reason = "newer compilers ask for none")]
+        let (vendor, version) = unsafe { (__cpuid(0), __cpuid(1).eax) };
+        let (family, model) = (version >> 8 & 0xF, version >> 12 & 0xF0 | version >> 4 & 0xF);
+        vendor.ebx == u32::from_le_bytes(*b"Genu") && (family, model) == (6, 0x55)
     }
 
     // AMD's processors before Zen 3 take up to hundreds of cycles for PDEP and PEXT.

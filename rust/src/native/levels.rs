@@ -17,10 +17,11 @@ macro_rules! by_level {
 }
 pub(crate) use by_level;
 
-/// The same of one that is compiled for x86-64-v4 too, which has AVX-512.
+/// The same of one that is compiled for x86-64-v4 too, which has AVX-512. A condition tells whether it gains so much that
+/// it goes there also where the clock is lowered for that.
 macro_rules! by_level_to_v4 {
-    ($v4:expr, $v3:expr, $any:expr) => {
-        crate::native::by_level_to_v4_if!(true, $v4, $v3, $any)
+    ($gains:expr, $v4:expr, $v3:expr, $any:expr) => {
+        crate::native::by_level_to_v4_if!(true, $gains, $v4, $v3, $any)
     };
 }
 pub(crate) use by_level_to_v4;
@@ -40,9 +41,9 @@ pub(crate) use by_level_to_vpopcntdq;
 
 /// That for x86-64-v4 where a condition tells whether there is so much to do that it pays to ask.
 macro_rules! by_level_to_v4_if {
-    ($much:expr, $v4:expr, $v3:expr, $any:expr) => {{
+    ($much:expr, $gains:expr, $v4:expr, $v3:expr, $any:expr) => {{
         #[cfg(target_arch = "x86_64")]
-        if $much && crate::native::has_v4() {
+        if $much && crate::native::has_v4_for($gains) {
             // SAFETY: the processor has what it is compiled for.
             return unsafe { $v4 };
         }
@@ -65,13 +66,13 @@ macro_rules! by_level_if {
 pub(crate) use by_level_if;
 
 /// A function with a copy that is compiled for x86-64-v3, and `to v4` with one for that, which are called where the processor
-/// has that, and there is so much to do that it pays to ask.
+/// has that, it gains so much (as above), and there is so much to do that it pays to ask.
 macro_rules! levelled {
     ($visible:vis fn $($rest:tt)+) => {
         crate::native::levelled! { where true; $visible fn $($rest)+ }
     };
     (
-        to v4 where $much:expr;
+        to v4 where $gains:expr, if $much:expr;
         $visible:vis fn $call:ident $(<$($row:ident),+>)?($($argument:ident: $type:ty),+ $(,)?)
             $(-> $result:ty)? $body:block
     ) => {
@@ -94,7 +95,7 @@ macro_rules! levelled {
                 any($($argument),+)
             }
 
-            crate::native::by_level_to_v4_if!($much, v4($($argument),+), v3($($argument),+), any($($argument),+))
+            crate::native::by_level_to_v4_if!($much, $gains, v4($($argument),+), v3($($argument),+), any($($argument),+))
         }
     };
     (

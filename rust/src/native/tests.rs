@@ -1,9 +1,9 @@
 //! Each call that goes by what the processor has, with all of it, and without one after another: on x86-64 AVX-512's VPOPCNTDQ
 //! and VBMI2, the rest of it, PDEP and PEXT, and x86-64-v3, and on 64-bit ARM BDEP and BEXT.
 
-use super::features::found::{MOST, QUICK_BITS};
 #[cfg(target_arch = "x86_64")]
-use super::features::found::{V3, V4, VBMI2, VPOPCNTDQ};
+use super::features::found::{KEEPS_CLOCK, V3, V4, VBMI2, VPOPCNTDQ};
+use super::features::found::{MOST, QUICK_BITS};
 use super::instructions::{deposit, extract};
 use crate::proved::mask_c;
 use crate::{BitBuffer, Bitmap, BitmapBuf, Mask, Row, Selection};
@@ -11,7 +11,10 @@ use crate::{BitBuffer, Bitmap, BitmapBuf, Mask, Row, Selection};
 #[cfg(target_arch = "x86_64")]
 const TO_V4: u8 = V3 | QUICK_BITS | V4;
 #[cfg(target_arch = "x86_64")]
-const LEVELS: [u8; 6] = [0, V3, V3 | QUICK_BITS, TO_V4, TO_V4 | VBMI2, TO_V4 | VBMI2 | VPOPCNTDQ];
+const MORE: u8 = TO_V4 | KEEPS_CLOCK;
+#[cfg(target_arch = "x86_64")]
+const LEVELS: [u8; 7] =
+    [0, V3, V3 | QUICK_BITS, TO_V4, MORE, MORE | VBMI2, MORE | VBMI2 | VPOPCNTDQ];
 #[cfg(target_arch = "aarch64")]
 const LEVELS: [u8; 2] = [0, QUICK_BITS];
 

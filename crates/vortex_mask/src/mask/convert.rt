@@ -93,7 +93,7 @@ impl Mask {
     /// What a test returns for each row, in their order: value `i` is its result for row `i`. No rows give `AllFalse(0)`.
     ///
     /// The filter of a column by a test of its rows, such as `|row| *row > low`.
-    // rust: level to v4
+    // rust: level to v4 where size_of::<T>() >= 4
     // rust: named try_from_rows
     pub fn from_rows<T, F: Fn(&T) -> bool>(
         alloc: Global,

@@ -86,6 +86,7 @@ pub(crate) fn and_rows_in_place<T, F: FnMut(&T) -> bool>(
 ) {
     crate::native::by_level_to_v4_if!(
         rows.len() > 128,
+        size_of::<T>() >= 4,
         and_rows_in_place_v4::<T, F>(bytes, rows, test),
         and_rows_in_place_v3::<T, F>(bytes, rows, test),
         and_rows_in_place_any::<T, F>(bytes, rows, test)

@@ -42,6 +42,7 @@ impl BitBuffer {
         test: F,
     ) -> Result<BitBuffer, AllocError> {
         crate::native::by_level_to_v4!(
+            size_of::<T>() >= 4,
             Self::from_rows_v4::<T, F>(rows, test),
             Self::from_rows_v3::<T, F>(rows, test),
             Self::from_rows_any::<T, F>(rows, test)

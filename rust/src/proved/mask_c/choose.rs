@@ -132,6 +132,7 @@ fn choose_small<const FEW: usize, M: MoveRows<T>, T: Copy>(
     out: &mut [T],
 ) -> usize {
     crate::native::by_level_to_v4!(
+        true,
         choose_small_v4::<FEW, M, T>(bytes, offset, len, rows, out),
         choose_small_v3::<FEW, M, T>(bytes, offset, len, rows, out),
         choose_small_any::<FEW, M, T>(bytes, offset, len, rows, out)
