@@ -151,8 +151,8 @@ pub(super) mod found {
         vbmi2 | vpopcntdq | if lowers_clock() { 0 } else { KEEPS_CLOCK }
     }
 
-    // Intel's Skylake, Cascade Lake and Cooper Lake for servers (one model) run by up to a sixth slower for two thirds of a
-    // millisecond after each use of registers of 64 bytes.
+    // Intel's Skylake, Cascade Lake and Cooper Lake for servers (one model) run up to a sixth slower for a while after each use
+    // of registers of 64 bytes.
     #[cfg(target_arch = "x86_64")]
     fn lowers_clock() -> bool {
         // SAFETY: each processor of x86-64 answers.
