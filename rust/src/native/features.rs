@@ -15,11 +15,11 @@ pub(crate) fn has_v4() -> bool {
     cfg!(not(target_feature = "avx512vl")) && found::all() & found::V4 != 0
 }
 
-/// Whether it has, for a loop that gains much by it, or for one that gains less if AVX-512 doesn't lower the clock.
+/// Whether a loop goes to x86-64-v4: one that gains much by it, or one that gains less where AVX-512 doesn't lower the clock.
 #[cfg(target_arch = "x86_64")]
 #[inline(always)]
-pub(crate) fn has_v4_for(much: bool) -> bool {
-    has_v4() && (much || found::all() & found::KEEPS_CLOCK != 0)
+pub(crate) fn has_v4_for(gains: bool) -> bool {
+    has_v4() && (gains || found::all() & found::KEEPS_CLOCK != 0)
 }
 
 /// Whether the processor has instructions of AVX-512 that put bytes and numbers of two bytes together (VBMI2), besides: that
@@ -155,23 +155,27 @@ pub(super) mod found {
     // of registers of 64 bytes.
     #[cfg(target_arch = "x86_64")]
     fn lowers_clock() -> bool {
-        // SAFETY: each processor of x86-64 answers.
-        #[allow(unused_unsafe, reason = "newer compilers ask for none")]
-        let (vendor, version) = unsafe { (__cpuid(0), __cpuid(1).eax) };
+        let (maker, version) = identity();
         let (family, model) = (version >> 8 & 0xF, version >> 12 & 0xF0 | version >> 4 & 0xF);
-        vendor.ebx == u32::from_le_bytes(*b"Genu") && (family, model) == (6, 0x55)
+        maker == *b"Genu" && (family, model) == (6, 0x55)
     }
 
     // AMD's processors before Zen 3 take up to hundreds of cycles for PDEP and PEXT.
     #[cfg(target_arch = "x86_64")]
     fn is_before_zen_3() -> bool {
-        // SAFETY: each processor of x86-64 answers.
-        #[allow(unused_unsafe, reason = "newer compilers ask for none")]
-        let (vendor, version) = unsafe { (__cpuid(0), __cpuid(1).eax) };
+        let (maker, version) = identity();
         let (base, more) = (version >> 8 & 0xF, version >> 20 & 0xFF);
         let family = if base == 0xF { base + more } else { base };
         // (Hygon's are Zen of the first generation)
-        let is_amd = [*b"Auth", *b"Hygo"].map(u32::from_le_bytes).contains(&vendor.ebx);
-        is_amd && family < 0x19
+        [*b"Auth", *b"Hygo"].contains(&maker) && family < 0x19
+    }
+
+    // The first letters of the maker's name, and the family and model.
+    #[cfg(target_arch = "x86_64")]
+    fn identity() -> ([u8; 4], u32) {
+        // SAFETY: each processor of x86-64 answers.
+        #[allow(unused_unsafe, reason = "newer compilers ask for none")]
+        let (name, version) = unsafe { (__cpuid(0).ebx, __cpuid(1).eax) };
+        (name.to_le_bytes(), version)
     }
 }
